@@ -5,6 +5,7 @@
 -- `Agent::step_told`, and the law `steps_carry_standing`.
 pub mod Counting
 pub mod PortStep
+pub mod Whose
 pub mod Step
 pub mod Telling
 pub mod OneLineState

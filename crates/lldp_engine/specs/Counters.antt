@@ -1,5 +1,5 @@
 -- The counters of a port (IEEE 802.1AB-2009, 9.2.6), each modulo 2^32.
-use Rattle.std.specs.Prelude.{ℕ, ◌+◌, ◌%◌, ◌^◌, Bool, true, false, nat_lt, if◌then◌else◌, List, [], ◌∷◌, length, filter}
+use Rattle.std.specs.Prelude.{ℕ, ◌+◌, ◌%◌, ◌^◌, Bool, true, false, ◌||◌, nat_lt, if◌then◌else◌, List, [], ◌∷◌, length, filter}
 use Rattle.std.specs.List.{sum_by}
 use Rattle.lldp_pdu.specs.Kept.{kept_of, discarded_of, count_unrecognized}
 use Rattle.lldp_table.specs.Events.{TableEvent, learned, is_tick, aged_out}
@@ -7,7 +7,7 @@ use Rattle.lldp_table.specs.declared.learned.Learned.TheVariants.{Dropped}
 use Rattle.lldp_transmit.specs.declared.event.Mark.{Mark}
 use Rattle.lldp_transmit.specs.declared.event.Mark.TheVariants.{Ordinary, Shutdown}
 use Rattle.lldp_engine.specs.declared.port.counters.Counters.{Counters}
-use Rattle.lldp_engine.specs.Heard.{Heard, refused, leaves, tells}
+use Rattle.lldp_engine.specs.Heard.{Heard, refused, tells}
 
 -- A counter shows a number modulo 2^32.
 abbrev pub wrapped : ℕ → ℕ
@@ -32,9 +32,7 @@ unrecognized_tlvs heard = 0
 
 -- True if the LLDPDU was refused or at least one of its TLVs was discarded.
 abbrev pub is_error : Heard → Bool
-is_error refused = true
-is_error (leaves msap) = false
-is_error (tells pdu) = nat_lt 0 (discarded_of pdu)
+is_error heard = is_refused heard || nat_lt 0 (discarded_tlvs heard)
 
 -- ## One table event
 

@@ -1,7 +1,7 @@
 -- Fixed numbers: the ends of ranges, the sizes of lines and writers, the numbers of faults.
 use Rattle.std.specs.Prelude.{◌≡◌, ℕ, ◌+◌, ◌<◌, ◌↔◌, [], ◌∷◌, map}
 use Rattle.lldp_transmit.specs.declared.limits.TheConstants.{MOST_CREDIT, MOST_FAST, MOST_REINIT}
-use Rattle.lldp_engine.specs.declared.agent.options.TheConstants.{MOST_NEIGHBORS}
+use Rattle.lldp_engine.specs.declared.agent.options.TheConstants.{MOST_NEIGHBORS, MOST_PORTS}
 use Rattle.lldp_engine.specs.declared.agent.event.TheConstants.{MOST_INTERVAL, MOST_HOLD}
 use Rattle.lldp_engine.specs.declared.show.lines.TheConstants.{MOST_LINES}
 use Rattle.lldp_text.specs.declared.writing.TheConstants.{LINE_ROOM, ROOM}
@@ -9,7 +9,14 @@ use Rattle.lldp_engine.specs.declared.agent.open_fault.OpenFault.{OpenFault}
 use Rattle.lldp_engine.specs.declared.agent.open_fault.OpenFault.TheVariants as refusal
 use Rattle.lldp_engine.specs.Event.{interval, hold}
 use Rattle.lldp_engine.specs.AgentState.{AgentState, AllowsSetting}
-use Rattle.lldp_engine.specs.Ranges.{most_interval, most_hold}
+use Rattle.lldp_engine.specs.Ranges.{most_interval, most_hold, most_ports, most_name}
+use Rattle.lldp_transmit.specs.Ranges.{most_credit_max, most_fast_init, most_reinit}
+use Rattle.lldp_table.specs.Ranges.{most_neighbors}
+use Rattle.lldp_engine.specs.declared.agent.port_names.TheConstants.{MOST_NAME}
+use Rattle.lldp_text.specs.declared.printable.TheConstants.{MOST_TEXT}
+use Rattle.lldp_pdu.specs.declared.frame.TheConstants.{MOST_OCTETS}
+use Rattle.lldp_pdu.specs.Range.{most_octets}
+use Rattle.lldp_text.specs.Text.{most_text}
 
 -- Returns the number of a fault at opening.
 abbrev pub number_of_refusal : OpenFault → ℕ
@@ -22,12 +29,16 @@ number_of_refusal refusal.Text = 6
 
 -- The constants have these values, and the faults at opening are numbered from 1 to 6.
 pub record AreConstants : Type 0 where
-  pub neighbors : MOST_NEIGHBORS ≡ 128
-  pub credit : MOST_CREDIT ≡ 10
-  pub fast : MOST_FAST ≡ 8
-  pub wait : MOST_REINIT ≡ 10
+  pub neighbors : MOST_NEIGHBORS ≡ most_neighbors
+  pub credit : MOST_CREDIT ≡ most_credit_max
+  pub fast : MOST_FAST ≡ most_fast_init
+  pub wait : MOST_REINIT ≡ most_reinit
   pub interval : MOST_INTERVAL ≡ most_interval
   pub hold : MOST_HOLD ≡ most_hold
+  pub octets : MOST_OCTETS ≡ most_octets
+  pub ports : MOST_PORTS ≡ most_ports
+  pub name : MOST_NAME ≡ most_name
+  pub text : MOST_TEXT ≡ most_text
   pub lines : MOST_LINES ≡ 6127808
   pub line : LINE_ROOM ≡ 2049
   pub room : ROOM ≡ 8192

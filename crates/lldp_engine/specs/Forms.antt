@@ -1,5 +1,5 @@
 -- The forms of the commands, and how words are compared with them.
-use Rattle.std.specs.Prelude.{ℕ, if◌then◌else◌, List, [], ◌∷◌, codes, Option, Some, None, Result, Ok, Err}
+use Rattle.std.specs.Prelude.{ℕ, if◌then◌else◌, List, [], ◌∷◌, codes, Option, Some, None, Result, Ok, Err, ok_or}
 use Rattle.std.specs.Str.{bytes_eq}
 use Rattle.lldp_text.specs.declared.fault.CommandFault.{CommandFault}
 use Rattle.lldp_text.specs.declared.fault.CommandFault.TheVariants.{Unknown, NoSuchPort, Text, Extra}
@@ -10,7 +10,7 @@ use Rattle.lldp_text.specs.Text.{is_text}
 use Rattle.lldp_text.specs.Number.{number_of}
 use Rattle.lldp_engine.specs.Place.{place_of}
 use Rattle.lldp_engine.specs.Event.{hostname, description, interval, hold, limit, status as port_status, update}
-use Rattle.lldp_text.specs.Answer.{or_fault, on_ok}
+use Rattle.lldp_text.specs.Answer.{on_ok}
 use Rattle.lldp_engine.specs.Command.{Command, show, set}
 use Rattle.lldp_engine.specs.Ranges.{most_interval, most_hold}
 
@@ -60,10 +60,10 @@ status_of w =
 abbrev pub after_word : List (List ℕ) → Form → List ℕ → Result Form CommandFault
 after_word names (complete command) w = Err Extra
 after_word names (word expected next) w = if bytes_eq w expected then Ok next else Err Unknown
-after_word names (port next) w = on_ok next (or_fault (place_of names w) NoSuchPort)
+after_word names (port next) w = on_ok next (ok_or (place_of names w) NoSuchPort)
 after_word names (number least greatest next) w = on_ok next (number_of w least greatest)
 after_word names (text next) w = if is_text w then Ok (next w) else Err Text
-after_word names (status next) w = on_ok next (or_fault (status_of w) Unknown)
+after_word names (status next) w = on_ok next (ok_or (status_of w) Unknown)
 
 -- Adds the rest of one more form to the others, if the word fits that form.
 abbrev pub and_left : Result Form CommandFault → List Form → List Form

@@ -47,8 +47,7 @@ sent_tlvs c name =
 -- a TTL of 0 and no optional TLVs. Quiet sends no frame; its value here is that of Shutdown.
 abbrev pub draft_of : Configuration → List ℕ → Mark → Draft
 draft_of c name Ordinary = record { msap = sent_msap c name; ttl = sent_ttl c; tlvs = sent_tlvs c name }
-draft_of c name Shutdown = record { msap = sent_msap c name; ttl = 0; tlvs = [] }
-draft_of c name Quiet = record { msap = sent_msap c name; ttl = 0; tlvs = [] }
+draft_of c name mark = record { msap = sent_msap c name; ttl = 0; tlvs = [] }
 
 -- A frame is the nearest bridge address, the agent's MAC address, LLDP's EtherType and the LLDPDU.
 unfoldable pub frame_of : Configuration → List ℕ → Mark → List ℕ

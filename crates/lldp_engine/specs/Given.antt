@@ -1,10 +1,10 @@
 -- The command or the fault that an agent reads from a line, by the forms.
-use Rattle.std.specs.Prelude.{◌≡◌, ℕ, if◌then◌else◌, List, [], ◌∷◌, Result, Ok, Err}
+use Rattle.std.specs.Prelude.{◌≡◌, ℕ, if◌then◌else◌, List, [], ◌∷◌, Result, Ok, Err, ok_or}
 use Rattle.lldp_text.specs.declared.fault.CommandFault.{CommandFault}
 use Rattle.lldp_text.specs.declared.fault.CommandFault.TheVariants.{Quote, InUse}
 use Rattle.lldp_engine.specs.Event.{limit}
 use Rattle.lldp_engine.specs.AgentState.{AgentState, PortState, names_of, fits}
-use Rattle.lldp_text.specs.Answer.{or_fault, ◌>>=◌}
+use Rattle.lldp_text.specs.Answer.{◌>>=◌}
 use Rattle.lldp_engine.specs.Command.{Command, set}
 use Rattle.lldp_engine.specs.Forms.{Form, complete, forms, read_forms}
 use Rattle.lldp_text.specs.Words.{words_of}
@@ -24,7 +24,7 @@ command_said agent words = unless_in_use agent.ports (said_by agent words)
 
 -- Reads a line. A bad quote has the fault Quote; otherwise the words decide.
 abbrev pub command_given : AgentState → List ℕ → Result Command CommandFault
-command_given agent line = or_fault (words_of line) Quote >>= command_said agent
+command_given agent line = ok_or (words_of line) Quote >>= command_said agent
 
 -- Reading a part of a command and then the rest gives the same result as reading the whole command.
 -- If the part has a fault, that fault is the result.

@@ -13,10 +13,6 @@ port_key name = front_of (codes "lldp.") name
 abbrev pub neighbor_key : List ℕ → ℕ → List ℕ
 neighbor_key name number = port_key name ++ decimal number ++ codes "."
 
--- The line of a number has its start, its key, and the number in decimal.
-abbrev pub number_line : List ℕ → List ℕ × ℕ → List ℕ
-number_line front number = front ++ (number.0 ++ decimal number.1)
-
--- Returns a line for each number.
+-- Returns a line for each number: its start, its key, and the number in decimal.
 abbrev pub number_lines : List ℕ → List (List ℕ × ℕ) → List (List ℕ)
-number_lines front numbers = map (number_line front) numbers
+number_lines front numbers = map (λ number. front ++ (number.0 ++ decimal number.1)) numbers

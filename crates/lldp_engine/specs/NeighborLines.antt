@@ -1,17 +1,12 @@
 -- The lines of `show neighbors`.
 use Rattle.std.specs.Prelude.{ℕ, ◌+◌, nat_lt, if◌then◌else◌, Bool, List, [], ◌∷◌, ◌++◌, length, map, codes, decimal, sum_by}
 use Rattle.std.specs.List.{flat_map}
-use Rattle.lldp_pdu.specs.Tlv.{TlvUnit}
 use Rattle.lldp_pdu.specs.Kept.{kept_of}
 use Rattle.lldp_table.specs.Events.{Neighbor}
 use Rattle.lldp_engine.specs.AgentState.{PortState}
 use Rattle.lldp_engine.specs.Keys.{port_key, neighbor_key}
 use Rattle.lldp_text.specs.Identifier.{chassis_text, port_text}
 use Rattle.lldp_text.specs.KeptTlv.{tlv_text}
-
--- Returns the line of a kept TLV: this key, and then the text of the TLV.
-abbrev pub kept_line : List ℕ → TlvUnit → List ℕ
-kept_line key tlv = key ++ tlv_text tlv
 
 -- The lines of a neighbor: chassis ID, port ID, the TTL it sent, the ticks left, and each kept TLV.
 abbrev pub neighbor_lines : List ℕ → ℕ → Neighbor → List (List ℕ)
@@ -21,7 +16,7 @@ neighbor_lines name number neighbor =
     ∷ (key ++ (codes "port." ++ port_text neighbor.msap.port))
     ∷ (key ++ (codes "ttl=" ++ decimal neighbor.ttl))
     ∷ (key ++ (codes "expires=" ++ decimal neighbor.left))
-    ∷ map (kept_line key) (kept_of neighbor.octets)
+    ∷ map (λ tlv. key ++ tlv_text tlv) (kept_of neighbor.octets)
 
 -- Returns the lines of these neighbors, which are numbered from `number` on.
 abbrev pub numbered_lines : List ℕ → ℕ → List Neighbor → List (List ℕ)
@@ -33,10 +28,6 @@ numbered_lines name number (neighbor ∷ others) =
 abbrev pub yes_or_no : Bool → List ℕ
 yes_or_no condition = if condition then codes "yes" else codes "no"
 
--- Returns the line that shows whether a port has too many neighbors.
-abbrev pub too_many_line : List ℕ → Bool → List ℕ
-too_many_line name too_many = port_key name ++ (codes "too-many=" ++ yes_or_no too_many)
-
 -- The first three lines of a port: how many neighbors it holds, the sum of their stored octets, and
 -- whether there are too many neighbors (the timer of that condition is not 0).
 abbrev pub count_lines : PortState → List (List ℕ)
@@ -44,7 +35,7 @@ count_lines port =
     (port_key port.name ++ (codes "neighbors=" ++ decimal (length port.table.neighbors)))
     ∷ (port_key port.name
     ++ (codes "octets=" ++ decimal (sum_by (λ neighbor. length neighbor.octets) port.table.neighbors)))
-    ∷ too_many_line port.name (nat_lt 0 port.table.too_many_left) ∷ []
+    ∷ (port_key port.name ++ (codes "too-many=" ++ yes_or_no (nat_lt 0 port.table.too_many_left))) ∷ []
 
 -- The lines of a port: the first three, then those of each neighbor, numbered in table order.
 abbrev pub port_lines : PortState → List (List ℕ)

@@ -8,6 +8,9 @@ use Rattle.lldp_engine.specs.declared.agent.options.Options.{Options as CodeOpti
 use Rattle.lldp_engine.specs.declared.agent.options.Role.{Role}
 use Rattle.lldp_engine.specs.declared.agent.open_fault.OpenFault.{OpenFault}
 use Rattle.lldp_engine.specs.declared.agent.open_fault.OpenFault.TheVariants.{Memory, NoPorts, TooManyPorts, PortName, SamePort, Text}
+use Rattle.lldp_engine.specs.Ranges.{most_ports, most_name}
+use Rattle.lldp_table.specs.Ranges.{most_neighbors}
+use Rattle.lldp_transmit.specs.Ranges.{most_credit_max, most_fast_init, most_reinit}
 
 -- The options of an agent: the names of its ports in order, its identity, its role, four numbers
 -- (limit of neighbors, txCreditMax, txFastInit, reinitDelay), and whether its ports begin as
@@ -42,10 +45,10 @@ options_of o =
 
 -- The four numbers are in their ranges.
 pub record InRange (o : Options) : Type 0 where
-  pub neighbors : (1 ≤ o.max_neighbors) × (o.max_neighbors ≤ 128)
-  pub credit : (1 ≤ o.credit_max) × (o.credit_max ≤ 10)
-  pub fast : (1 ≤ o.fast_init) × (o.fast_init ≤ 8)
-  pub wait : (1 ≤ o.reinit) × (o.reinit ≤ 10)
+  pub neighbors : (1 ≤ o.max_neighbors) × (o.max_neighbors ≤ most_neighbors)
+  pub credit : (1 ≤ o.credit_max) × (o.credit_max ≤ most_credit_max)
+  pub fast : (1 ≤ o.fast_init) × (o.fast_init ≤ most_fast_init)
+  pub wait : (1 ≤ o.reinit) × (o.reinit ≤ most_reinit)
 
 -- True for a letter, a digit, `-`, `_`, `/` and `:`.
 abbrev pub is_name_octet : ℕ → Bool
@@ -55,7 +58,7 @@ is_name_octet c =
 
 -- True if the name has 1 to 15 octets, all of them allowed in names.
 abbrev pub is_port_name : List ℕ → Bool
-is_port_name name = nat_lt 0 (length name) && (nat_le (length name) 15 && list_all is_name_octet name)
+is_port_name name = nat_lt 0 (length name) && (nat_le (length name) most_name && list_all is_name_octet name)
 
 -- True if some name occurs twice.
 abbrev pub has_same : List (List ℕ) → Bool
@@ -66,7 +69,7 @@ has_same (name ∷ names) = list_any (λ other. bytes_eq other name) names || ha
 abbrev pub checks : Options → List (Check OpenFault)
 checks o =
     record { fails = length o.names == 0; fault = NoPorts }
-    ∷ record { fails = nat_lt 64 (length o.names); fault = TooManyPorts }
+    ∷ record { fails = nat_lt most_ports (length o.names); fault = TooManyPorts }
     ∷ record { fails = not (list_all is_port_name o.names); fault = PortName }
     ∷ record { fails = has_same o.names; fault = SamePort }
     ∷ record { fails = not (is_text o.hostname); fault = Text }
@@ -79,8 +82,4 @@ fault_of o = first_fault (checks o)
 -- Opening fails with the fault of the first check that fails, and with Memory only if none does.
 abbrev pub IsRefusal : Options → OpenFault → Type 0
 IsRefusal o Memory = fault_of o ≡ None
-IsRefusal o NoPorts = fault_of o ≡ Some NoPorts
-IsRefusal o TooManyPorts = fault_of o ≡ Some TooManyPorts
-IsRefusal o PortName = fault_of o ≡ Some PortName
-IsRefusal o SamePort = fault_of o ≡ Some SamePort
-IsRefusal o Text = fault_of o ≡ Some Text
+IsRefusal o fault = fault_of o ≡ Some fault

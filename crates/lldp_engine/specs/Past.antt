@@ -8,7 +8,7 @@ use Rattle.lldp_engine.specs.Event.{Event, HasOctets, set, interval}
 use Rattle.lldp_engine.specs.Ranges.{first_interval}
 use Rattle.lldp_engine.specs.Configuration.{Configuration, configuration_at_opening, configured}
 use Rattle.lldp_engine.specs.AgentState.{AgentState, PortState, Allows}
-use Rattle.lldp_engine.specs.Port.Event.{whose, for_port}
+use Rattle.lldp_engine.specs.Port.Event.{for_port}
 use Rattle.lldp_engine.specs.Port.Past.{Happened, mark_after, port_after}
 
 -- The options at opening, and the events since, newest first.
@@ -37,7 +37,7 @@ interval_after (event ∷ events) = interval_after events
 
 -- Returns what happens to port i at an event that follows these events.
 abbrev pub happened : ℕ → Event → List Event → Happened
-happened i event events = record { event = for_port i (whose event); interval = interval_after (event ∷ events) }
+happened i event events = record { event = for_port i event; interval = interval_after (event ∷ events) }
 
 -- Returns what has happened to port i, newest first.
 abbrev pub port_past : ℕ → List Event → List Happened

@@ -1,4 +1,4 @@
--- The first and the greatest numbers of settings. A law ties the constants of the code to these.
+-- The first and the greatest numbers of settings, and the most ports and octets of a name. A law ties the constants of the code to these.
 use Rattle.std.specs.Prelude.{ℕ}
 
 -- the tx-interval at opening, in seconds
@@ -12,3 +12,11 @@ most_interval = 3600
 -- the greatest tx-hold
 abbrev pub most_hold : ℕ
 most_hold = 100
+
+-- the most ports of an agent
+abbrev pub most_ports : ℕ
+most_ports = 64
+
+-- the most octets of the name of a port
+abbrev pub most_name : ℕ
+most_name = 15

@@ -20,6 +20,7 @@ ghost use Rattle.lldp_engine.specs.Code.Telling.{agent_told};
 ghost use Rattle.lldp_engine.specs.Told.{told_of, Tells};
 ghost use Rattle.lldp_engine.specs.Headline.{PromisedStep};
 ghost use Rattle.lldp_engine.specs.Sending.{HaveSentExactly};
+ghost use Rattle.lldp_engine.specs.Ranges.{most_name, most_ports};
 
 pub(crate) mod configuration;
 pub(crate) mod event;
@@ -144,7 +145,7 @@ impl<A: Allocator> Agent<A> {
     /// Returns the number of ports that the options named, at most 64.
     pub fn ports(&self) -> u8
         ensures value { result ≡ length self.now.ports }
-        ensures few { result ≤ 64 }
+        ensures few { result ≤ most_ports }
         ensures past { (past : Past) → Stands past self.now → result ≡ length past.options.names }
     {
         self.ports.len() as u8
@@ -156,7 +157,7 @@ impl<A: Allocator> Agent<A> {
         ensures value { slice_get (names_of self.now) port ≡ Some result.now }
         ensures name { result.now ≡ name_of self.now port }
         ensures some { 0 < length result.now }
-        ensures short { length result.now ≤ 15 }
+        ensures short { length result.now ≤ most_name }
         ensures past { (past : Past) → Stands past self.now →
             slice_get past.options.names port ≡ Some result.now }
     {

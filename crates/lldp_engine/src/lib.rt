@@ -12,7 +12,10 @@ pub use agent::configuration::Configuration;
 pub use agent::event::{Event, MOST_HOLD, MOST_INTERVAL, Setting};
 pub use agent::frame::Frame;
 pub use agent::open_fault::OpenFault;
-pub use agent::options::{MOST_CREDIT, MOST_FAST, MOST_NEIGHBORS, MOST_REINIT, Options, Role};
+pub use agent::options::{
+    MOST_CREDIT, MOST_FAST, MOST_NEIGHBORS, MOST_PORTS, MOST_REINIT, Options, Role,
+};
+pub use agent::port_names::MOST_NAME;
 pub use agent::ports::Marks;
 pub use agent::told::Told;
 pub use command::forms::{end_words, next_port, next_word};

@@ -7,6 +7,7 @@ ghost use Rattle.lldp_engine.specs.Code.PortStep.{opened_port, port_after_event,
 ghost use Rattle.lldp_engine.specs.Code.Taking.{FitsLimit};
 ghost use Rattle.lldp_engine.specs.Code.Telling.{port_told};
 ghost use Rattle.lldp_engine.specs.Told.{told_of};
+ghost use Rattle.lldp_engine.specs.Ranges.{most_name};
 
 mod causes;
 pub(crate) mod counters;
@@ -15,6 +16,7 @@ mod hearing;
 pub(crate) mod status;
 
 use crate::agent::options::Options;
+use crate::agent::port_names::MOST_NAME;
 use crate::agent::told::Told;
 use crate::port::counters::Counters;
 use crate::port::status::{Status, opening_status};
@@ -28,7 +30,7 @@ use std::marker::Model;
 
 #[derive(Drop)]
 pub(crate) struct Port<A: Allocator> {
-    name: ArrayVec<u8, 15>,
+    name: ArrayVec<u8, MOST_NAME>,
     status: Status,
     table: Table<A>,
     transmit: Transmit,
@@ -49,8 +51,8 @@ impl<A: Allocator> Model for Port<A> {
     } };
 }
 
-fn name_of(octets: &[u8]) -> ArrayVec<u8, 15>
-    requires { length octets.now ≤ 15 }
+fn name_of(octets: &[u8]) -> ArrayVec<u8, MOST_NAME>
+    requires { length octets.now ≤ most_name }
     ensures { result.items ≡ octets.now }
 {
     let mut name = ArrayVec::new();
@@ -61,7 +63,7 @@ fn name_of(octets: &[u8]) -> ArrayVec<u8, 15>
 impl<A: Allocator> Port<A> {
     /// Opens a port and allocates its table. The port has had no events yet.
     pub(crate) fn open(alloc: A, name: &[u8], options: &Options<'_>) -> Result<Port<A>, AllocError>
-        requires name { length name.now ≤ 15 }
+        requires name { length name.now ≤ most_name }
         requires range { InRange (options_of options.now) }
         ensures { IfOk result (λ port. port ≡ opened_port (options_of options.now) name.now) }
     {
@@ -83,7 +85,7 @@ impl<A: Allocator> Port<A> {
 
     pub(crate) fn name(&self) -> &[u8]
         ensures value { result.now ≡ self.now.name }
-        ensures short { length result.now ≤ 15 }
+        ensures short { length result.now ≤ most_name }
     {
         self.name.as_slice()
     }

@@ -1,7 +1,7 @@
 -- LLDP frames (IEEE 802.1AB-2009, 7.1 to 7.4).
-use Rattle.std.specs.Prelude.{ℕ, Bool, ◌&&◌, List, [], ◌∷◌, length, drop, Option, Some, None, nat_eq, if◌then◌else◌}
+use Rattle.std.specs.Prelude.{ℕ, ◌+◌, Bool, ◌&&◌, List, [], ◌∷◌, length, drop, Option, Some, None, nat_eq, if◌then◌else◌}
 use Rattle.std.specs.List.{starts_with}
-use Rattle.lldp_pdu.specs.Range.{is_between}
+use Rattle.lldp_pdu.specs.Range.{is_between, most_octets}
 
 -- the nearest bridge group address, 01-80-C2-00-00-0E
 abbrev pub nearest_bridge : List ℕ
@@ -15,7 +15,7 @@ lldp_ethertype = 0x88 ∷ 0xcc ∷ []
 -- EtherType.
 unfoldable pub is_lldp_frame : List ℕ → Bool
 is_lldp_frame frame =
-    is_between 14 (length frame) 1514 && starts_with nat_eq frame nearest_bridge
+    is_between 14 (length frame) (14 + most_octets) && starts_with nat_eq frame nearest_bridge
     && starts_with nat_eq (drop 12 frame) lldp_ethertype
 
 -- the LLDPDU of an LLDP frame: everything after the EtherType

@@ -2,6 +2,7 @@
 ghost use Rattle.std.specs.Prelude.{◌≡◌, ◌≤◌, length, IfSome};
 ghost use Rattle.std.specs.Option.{option_copied};
 ghost use Rattle.lldp_pdu.specs.Frame.{lldpdu_of};
+ghost use Rattle.lldp_pdu.specs.Range.{most_octets};
 
 /// The maximum number of octets in an LLDPDU: the maximum payload of an Ethernet frame.
 pub const MOST_OCTETS: usize = 1500;
@@ -18,9 +19,9 @@ const LLDP_ETHERTYPE: [u8; 2] = [0x88, 0xcc];
 #[tactic(auto, unfolding(crate::specs::Frame::is_lldp_frame))]
 pub fn frame_pdu(frame: &[u8]) -> Option<&[u8]>
     ensures value { option_copied result ≡ lldpdu_of frame.now }
-    ensures short { IfSome result (λ pdu. length pdu.now ≤ 1500) }
+    ensures short { IfSome result (λ pdu. length pdu.now ≤ most_octets) }
 {
-    if frame.len() < 14 || frame.len() > 1514 {
+    if frame.len() < 14 || frame.len() > 14 + MOST_OCTETS {
         return None;
     }
     if !frame.starts_with(&NEAREST_BRIDGE) {

@@ -25,6 +25,7 @@ ghost use Rattle.lldp_pdu.specs.Laws.KeptOnce.{AreKeptOnce, AreCounted};
 ghost use Rattle.lldp_pdu.specs.Laws.PutFaults.{IsRefused};
 ghost use Rattle.lldp_pdu.specs.Laws.SoundForm.{IsSound, HasFaults};
 ghost use Rattle.lldp_pdu.specs.WellFormed.{is_well_formed};
+ghost use Rattle.lldp_pdu.specs.Range.{most_octets};
 
 /// Each list of octets has exactly one cut into complete TLVs and a rest.
 #[tactic(auto, using(crate::proofs::Cuts::cut_is_cut, crate::proofs::Cuts::only_cut))]
@@ -107,7 +108,7 @@ pub fn checked_tlvs_are_put()
 /// An LLDPDU that a `Builder` can build has at most 1,500 octets, and examining it returns the
 /// contents that it was built from. This also holds if its octets were written without a `Builder`.
 pub fn drafts_are_read_back()
-    ensures short { (draft : Draft) → CanBuild draft → length (lldpdu_octets draft) ≤ 1500 }
+    ensures short { (draft : Draft) → CanBuild draft → length (lldpdu_octets draft) ≤ most_octets }
     ensures read_back { (draft : Draft) → CanBuild draft → IsReadBack draft (lldpdu_octets draft) }
 {}
 

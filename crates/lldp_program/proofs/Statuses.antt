@@ -75,7 +75,6 @@ opened_ran options to_come left old new told_before told_after before after stat
       read = ran.run.read;
       agent = after;
       ends = ran.run.ends (opened options) stands;
-      done = ran.done;
       flushed = ran.flushed;
       ended = ran.ended;
     }
@@ -95,7 +94,7 @@ told_through P old taken left new none failed o z n h =
 -- if the run failed and its fault was reported, the program ended with that fault
 pub failed_end : (r : Result (Unit {0}) RunFault) (fault : RunFault) (flushed : Result (Unit {0}) DeviceFault) (old new : Stream) (status : ℕ)
     → r ≡ Err fault → status ≡ 1 → IsTold (ending.Run fault) old new → EndsBy (ended_by r flushed) old new status
-failed_end r fault flushed old new status e answered told = rw e record { ends = answered; told = told }
+failed_end r fault flushed old new status e answered told = rw e (answered, told)
 
 -- if the run had no fault, the flush decides how the program ended
 pub flushed_end : (r : Result (Unit {0}) RunFault) (flushed : Result (Unit {0}) DeviceFault) (passed : Bool) (old new : Stream) (status : ℕ)
@@ -118,8 +117,8 @@ asks_for_help words kind (inl help) (inr fails) = inl (subst (MayFail words) hel
 asks_for_help words kind (inr version) (inr fails) = inr (subst (MayFail words) version fails)
 
 pub ends_below_two : (old new : Stream) (status : ℕ) → EndsWellOr (ending.Run Write) old new status → status ≡ 2 → ⊥
-ends_below_two old new status (inl well) two = omega (arith, well.ends, two)
-ends_below_two old new status (inr told) two = omega (arith, told.ends, two)
+ends_below_two old new status (inl well) two = omega (arith, well.0, two)
+ends_below_two old new status (inr told) two = omega (arith, told.0, two)
 
 pub keeps_same : (octets : Option (List ℕ)) → Keeps octets octets
 keeps_same None = tt

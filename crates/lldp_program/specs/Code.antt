@@ -2,4 +2,5 @@
 -- calls use other definitions.
 pub mod Output
 pub mod Parts
+pub mod Pieces
 pub mod Plain

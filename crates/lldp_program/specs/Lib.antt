@@ -1,3 +1,4 @@
+pub mod Ranges
 pub mod Devices
 pub mod Faults
 pub mod Trace

@@ -1,5 +1,5 @@
 -- What a run of the program does to its streams, or why the program refuses to run.
-use Rattle.std.specs.Prelude.{◌≡◌, ◌≢◌, ◌<◌, ◌≤◌, ◌⊎◌, ℕ, List, true, Option, Some, None, Result, is_ok, codes}
+use Rattle.std.specs.Prelude.{◌≡◌, ◌≢◌, ◌<◌, ◌≤◌, ◌⊎◌, ℕ, List, Option, Some, None, Result, codes}
 use Rattle.std.specs.Io.KnownBytes.{Consumes, Keeps}
 use Rattle.clap.specs.Walk.{Row, Text, one_of}
 use Rattle.clap.specs.declared.error.kind.ErrorKind.{ErrorKind}
@@ -18,14 +18,13 @@ use Rattle.lldp_program.specs.declared.fault.ProgramFault.TheVariants.{Run, Sock
 use Rattle.lldp_program.specs.declared.trace.RunFault.{RunFault}
 use Rattle.lldp_program.specs.declared.trace.RunFault.TheVariants.{Write}
 
--- The agent ran the trace that was read, and the output was flushed. With status 0 it ran the whole
--- trace. Another status is that of the run's fault or, if the run had none, of the flush's fault.
--- That fault was reported.
+-- The agent ran the trace that was read, and the output was flushed. With status 0 neither had a
+-- fault. Another status is that of the run's fault or, if the run had none, of the flush's fault, and
+-- that fault was reported.
 pub record RanStreams (to_come left old new : Option (List ℕ)) (told_before told_after : Stream)
     (before after : AgentState) (status : ℕ) : Type 0 where
   pub result : Result (Unit {0}) RunFault
   pub run : HasRun to_come left old new before after result
-  pub done : status ≡ 0 → is_ok result ≡ true
   pub flushed : Result (Unit {0}) DeviceFault
   pub ended : EndsBy (ended_by result flushed) told_before told_after status
 
@@ -43,7 +42,6 @@ pub record RanBy (options : Options) (to_come left old new : Option (List ℕ)) 
   pub read : HasRead left input result
   pub agent : AgentState
   pub ends : Ends (opened options) input left old new agent result
-  pub done : status ≡ 0 → is_ok result ≡ true
   pub flushed : Result (Unit {0}) DeviceFault
   pub ended : EndsBy (ended_by result flushed) told_before told_after status
 

@@ -5,9 +5,12 @@ ghost use Rattle.hex.specs.Hex.{decode_of};
 ghost use Rattle.lldp_engine.specs.AgentState.{AgentState, IsPort};
 ghost use Rattle.lldp_text.specs.Answer.{on_ok};
 ghost use Rattle.lldp_program.specs.Faults.FaultNumber.{number_of_line_fault};
-ghost use Rattle.lldp_program.specs.Trace.Forms.{fault_text, is_skipped, or_hex, tick_form, frame_form, link_form, work_given};
+ghost use Rattle.lldp_program.specs.Trace.Forms.{fault_text, is_skipped, tick_form, frame_form, link_form, work_given};
 ghost use Rattle.lldp_program.specs.Trace.Work.{frame, work_of, AllowsWork};
 ghost use Rattle.lldp_program.specs.Code.Plain.{is_plain_octet, EndsAt};
+ghost use Rattle.lldp_program.specs.Ranges.{most_of_line};
+ghost use Rattle.std.specs.Result.{result_map_both};
+ghost use Rattle.lldp_program.specs.declared.line.LineFault.TheVariants.{Hex};
 
 use lldp_engine::{
     Agent, Command, CommandFault, Words, decode_digits, end_words, next_port, next_word, number,
@@ -109,8 +112,10 @@ fn read_tick<'l>(mut words: Words<'_>) -> Result<Work<'l>, LineFault>
 /// Decodes hexadecimal digits into the front of `room`, and returns the octets.
 fn decode<'l>(digits: &[u8], room: &'l mut [u8]) -> Result<&'l [u8], LineFault>
     requires { length digits.now ≤ 2 * length room.old }
-    ensures octets { IfOk result (λ octets. or_hex (decode_of digits.now) ≡ Ok octets.now) }
-    ensures fault { IfErr result (λ fault. or_hex (decode_of digits.now) ≡ Err fault) }
+    ensures octets { IfOk result (λ octets. result_map_both (λ octets. octets) (λ fault. Hex)
+        (decode_of digits.now) ≡ Ok octets.now) }
+    ensures fault { IfErr result (λ fault. result_map_both (λ octets. octets) (λ fault. Hex)
+        (decode_of digits.now) ≡ Err fault) }
 {
     let octets = &mut room[..digits.len() / 2];
     if digits.len() % 2 == 0 && decode_digits(digits, octets) {
@@ -130,7 +135,7 @@ fn read_frame<'l>(
     mut words: Words<'_>,
     room: &'l mut [u8; 2048],
 ) -> Result<Work<'l>, LineFault>
-    requires { AllByRecursion (λ word. length word ≤ 4096) words }
+    requires { AllByRecursion (λ word. length word ≤ most_of_line) words }
     ensures read { on_ok work_of result ≡ frame_form agent.now words.entry }
     ensures allowed { IfOk result (λ work. AllowsWork agent.now (work_of work)) }
 {

@@ -7,9 +7,10 @@ ghost use Rattle.lldp_engine.specs.Lines.{lines_of};
 ghost use Rattle.lldp_text.specs.declared.writing.TheConstants.{ROOM};
 ghost use Rattle.lldp_program.specs.Devices.Counts.{failures_after};
 ghost use Rattle.lldp_program.specs.Trace.Lines.{ended};
-ghost use Rattle.lldp_program.specs.Code.Output.{WrittenBy, Puts, Flushes, Writes, begun};
-ghost use Rattle.lldp_program.specs.Trace.Sent.{sent_line, mark_line};
+ghost use Rattle.lldp_program.specs.Code.Output.{WrittenBy, Puts, Flushes, Writes, begun, sent_line};
+ghost use Rattle.lldp_program.specs.Trace.Sent.{mark_line};
 ghost use Rattle.lldp_program.specs.Code.Parts.{output_state, Between};
+ghost use Rattle.lldp_engine.specs.Ranges.{most_name};
 
 use crate::device::{DeviceFault, Sink};
 use lldp_engine::{Agent, Frame, LINE_ROOM, LineSink, Marks, Show, Writer};
@@ -106,7 +107,7 @@ impl<W: Sink> Output<'_, W> {
 
     /// Appends to the buffer the line for a frame that a port sends.
     fn put_frame(&mut self, name: &[u8], frame: &[u8])
-        requires name { length name.now ≤ 15 }
+        requires name { length name.now ≤ most_name }
         requires frame { length frame.now ≤ 1514 }
         ensures { Between W.taken W.failures W.place self.old self.new
             (Puts (sent_line name.now frame.now)) }

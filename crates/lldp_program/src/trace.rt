@@ -6,12 +6,12 @@ ghost use Rattle.lldp_engine.specs.Event.{tick, frame, event_of};
 ghost use Rattle.lldp_engine.specs.Past.{Past};
 ghost use Rattle.lldp_engine.specs.Standing.{Stands};
 ghost use Rattle.lldp_program.specs.Faults.FaultNumber.{number_of_run_fault};
-ghost use Rattle.lldp_program.specs.Trace.Lines.{ended_lines, unfinished, if_any};
 ghost use Rattle.lldp_program.specs.Trace.Work.{work_of, AllowsWork};
 ghost use Rattle.lldp_program.specs.Trace.Items.{happens, items_of_work, items_of, items_of_lines};
 ghost use Rattle.lldp_program.specs.Code.Parts.{RunsItems, Between};
 ghost use Rattle.lldp_program.specs.Code.Plain.{EndsAt};
 ghost use Rattle.lldp_program.specs.Trace.Runs.{EndsTold, HasRun, KeepsOn, read_failures_after, write_failures_after};
+ghost use Rattle.lldp_program.specs.Code.Pieces.{pieces, unfinished, if_any};
 
 use crate::buffer::{hold, read_more};
 use crate::device::{DeviceFault, Sink, Source};
@@ -140,10 +140,10 @@ impl<W: Sink> Run<'_, '_, W> {
     /// Returns where the LF is, or None if there is none.
     fn first(&mut self, text: &[u8], held: usize) -> Result<Option<usize>, DeviceFault>
         requires { held ≤ length text.now }
-        ensures none { IfOk result (λ found. IfNone found (ended_lines (take held text.now) ≡ [])) }
+        ensures none { IfOk result (λ found. IfNone found (pieces (take held text.now) ≡ [])) }
         ensures ends { IfOk result (λ found. IfSome found (EndsAt (take held text.now))) }
         ensures run { Performs W.taken W.failures W.place self.old self.new
-            (λ past. items_of_lines past (take 1 (ended_lines (take held text.now)))) result }
+            (λ past. items_of_lines past (take 1 (pieces (take held text.now)))) result }
     {
         if let Some(line) = frame_line(self.agent, text, &mut self.room) {
             if line.end < held {
@@ -163,11 +163,11 @@ impl<W: Sink> Run<'_, '_, W> {
     fn lines(&mut self, buffer: &[u8], held: usize, searched: usize) -> Result<usize, DeviceFault>
         requires within { searched ≤ held }
         requires held { held ≤ length buffer.now }
-        requires no_line { ended_lines (take searched (take held buffer.now)) ≡ [] }
+        requires no_line { pieces (take searched (take held buffer.now)) ≡ [] }
         ensures rest { IfOk result (λ start. (start ≤ held)
             × (drop start (take held buffer.now) ≡ unfinished (take held buffer.now))) }
         ensures run { Performs W.taken W.failures W.place self.old self.new
-            (λ past. items_of_lines past (ended_lines (take held buffer.now))) result }
+            (λ past. items_of_lines past (pieces (take held buffer.now))) result }
     {
         // What follows the last LF is not decoded before its line has ended.
         let Some(last) = memrchr(LF, &buffer[searched..held]) else {

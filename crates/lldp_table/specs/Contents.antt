@@ -7,6 +7,8 @@ use Rattle.lldp_pdu.specs.Lldpdu.{extent, ttl_of, msap_of}
 use Rattle.lldp_pdu.specs.Fault.{fault_of}
 use Rattle.lldp_table.specs.Msap.{same_msap}
 use Rattle.lldp_table.specs.Events.{Neighbor}
+use Rattle.lldp_pdu.specs.Range.{most_octets}
+use Rattle.lldp_table.specs.Ranges.{most_neighbors}
 
 -- a table: the limit given at opening, the current limit, the neighbors in the order in which they
 -- were last added, those that aged out at the last call if it was a tick, and the remaining ticks of
@@ -29,7 +31,7 @@ holds_name table name = list_any (is_named name) table.neighbors
 -- An extent that can be stored: at most 1,500 octets that are a sound LLDPDU with this MSAP
 -- identifier and this TTL, above 0, and that equal their own extent.
 pub record IsExtent (msap : MsapId) (ttl : ℕ) (octets : List ℕ) : Type 0 where
-  pub short : length octets ≤ 1500
+  pub short : length octets ≤ most_octets
   pub lives : 0 < ttl
   pub chassis : IsIdentifier msap.chassis
   pub port : IsIdentifier msap.port
@@ -64,7 +66,7 @@ names_of neighbors = map (λ neighbor. neighbor.msap) neighbors
 -- the limit are held, each as `IsHeld` says, and no two have the same MSAP identifier. Those that aged
 -- out are as they were held.
 pub record IsSound (table : Contents) : Type 0 where
-  pub most : table.capacity ≤ 128
+  pub most : table.capacity ≤ most_neighbors
   pub room : table.limit ≤ table.capacity
   pub least : 0 < table.limit
   pub few : length table.neighbors ≤ table.limit

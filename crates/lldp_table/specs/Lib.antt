@@ -1,3 +1,4 @@
+pub mod Ranges
 pub mod Msap
 pub mod Events
 pub mod Counted

@@ -2,6 +2,7 @@
 use Rattle.std.specs.Prelude.{◌≡◌, ℕ, ◌<◌, ◌≤◌, List, [], ◌∷◌, length}
 use Rattle.lldp_table.specs.Events.{Call, learn, forget, purge, tick, set_limit, events_of, neighbors, gone, too_many_left, limit_after}
 use Rattle.lldp_table.specs.Contents.{Contents, IsExtent}
+use Rattle.lldp_table.specs.Ranges.{most_neighbors}
 
 -- the contents that the definitions give for a table after these calls: the limits, the live
 -- neighbors in the order in which they were last added, those that aged out, and the too-many timer
@@ -39,7 +40,7 @@ ArePossible opened (call ∷ calls) = IsPossible (table_of opened calls) call ×
 -- newest first: its contents are those that the definitions give for this limit and these calls.
 pub record Stands (opened : ℕ) (calls : List Call) (table : Contents) : Type 0 where
   pub least : 0 < opened
-  pub most : opened ≤ 128
+  pub most : opened ≤ most_neighbors
   pub allowed : ArePossible opened calls
   pub is : table ≡ table_of opened calls
 

@@ -17,6 +17,8 @@ ghost use Rattle.lldp_table.specs.Code.Steps.{learn_answer, after_learn, newly_o
 ghost use Rattle.lldp_table.specs.Standing.{Stands, ForEachCalls, IsPossible, ArePossible, table_of};
 ghost use Rattle.lldp_table.specs.Positions.{IsLastStored, IsLive, HasRoom, IsNewBefore, WasDropped};
 ghost use Rattle.lldp_table.specs.declared.limits.TheConstants.{MOST_NEIGHBORS};
+ghost use Rattle.lldp_pdu.specs.Range.{most_octets};
+ghost use Rattle.lldp_table.specs.Ranges.{most_neighbors};
 
 /// If a table matches a list of calls (`Stands`) and one more call is possible (`IsPossible`), the
 /// table after that call matches the list with that call.
@@ -30,7 +32,7 @@ pub fn calls_carry_standing()
 /// list of calls, its results are those that the definitions give for the list. Each call adds one
 /// event. The neighbors that a tick ages out plus those that remain are as many as before the tick.
 pub fn calls_tell_standing_tables()
-    ensures opened { (opened : ℕ) → 0 < opened → opened ≤ 128 →
+    ensures opened { (opened : ℕ) → 0 < opened → opened ≤ most_neighbors →
         Stands opened [] (newly_opened opened) }
     ensures learned { (table : Contents) (name : MsapId) →
         ForEachCalls table (λ opened calls. learn_answer table name
@@ -45,7 +47,7 @@ pub fn calls_tell_standing_tables()
 /// A table opened with a limit of 1 to 128 is sound, and a sound table is still sound after each
 /// possible call.
 pub fn calls_leave_sound_tables()
-    ensures opened { (limit : ℕ) → 0 < limit → limit ≤ 128 →
+    ensures opened { (limit : ℕ) → 0 < limit → limit ≤ most_neighbors →
         IsSound (newly_opened limit) }
     ensures after { (table : Contents) (call : Call) → IsSound table → IsPossible table call →
         IsSound (table_after table call) }
@@ -56,7 +58,7 @@ pub fn calls_leave_sound_tables()
 #[tactic(auto, using(crate::proofs::Extents::lldpdu_is_extent, crate::proofs::Extents::kept_is_short))]
 pub fn extents_can_be_stored()
     ensures stored { (pdu : List ℕ) → AreOctets pdu → fault_of pdu ≡ None → 0 < ttl_of pdu →
-        length pdu ≤ 1500 →
+        length pdu ≤ most_octets →
         IsExtent (msap_of pdu) (ttl_of pdu) (extent pdu) }
     ensures few { (neighbor : Neighbor) → IsHeld neighbor →
         12 + 2 * length (kept_of neighbor.octets) ≤ length neighbor.octets }
@@ -74,9 +76,9 @@ pub fn tables_hold_last_stored_frames()
         ↔ IsLastStored (events_of opened calls) neighbor }
     ensures order { (opened : ℕ) (calls : List Call) →
         AllPairs (IsNewBefore (events_of opened calls)) (neighbors (events_of opened calls)) }
-    ensures sound { (opened : ℕ) (calls : List Call) → 0 < opened → opened ≤ 128 →
+    ensures sound { (opened : ℕ) (calls : List Call) → 0 < opened → opened ≤ most_neighbors →
         ArePossible opened calls → IsSound (table_of opened calls) }
-    ensures stands { (opened : ℕ) (calls : List Call) → 0 < opened → opened ≤ 128 →
+    ensures stands { (opened : ℕ) (calls : List Call) → 0 < opened → opened ≤ most_neighbors →
         ArePossible opened calls → Stands opened calls (table_of opened calls) }
 {}
 
@@ -226,5 +228,5 @@ pub fn names_one_octet_apart_have_tags_apart()
 
 /// `MOST_NEIGHBORS`, the most neighbors that a table can hold, is 128.
 pub fn tables_have_room_for_128()
-    ensures { MOST_NEIGHBORS ≡ 128 }
+    ensures { MOST_NEIGHBORS ≡ most_neighbors }
 {}

@@ -10,6 +10,8 @@ ghost use Rattle.lldp_table.specs.declared.learned.Learned.TheVariants.{New, Ref
 ghost use Rattle.lldp_table.specs.Events.{Call, learn, forget, purge, tick, set_limit, live, answer, aged_out, events_of};
 ghost use Rattle.lldp_table.specs.Standing.{Stands, ForEachCalls};
 ghost use Rattle.lldp_table.specs.Outcomes.{learned_of, octets_held, outcome_for, store_outcome, outcome_between};
+ghost use Rattle.lldp_pdu.specs.Range.{most_octets};
+ghost use Rattle.lldp_table.specs.Ranges.{most_neighbors};
 
 use crate::entries::Entries;
 use crate::entry::Entry;
@@ -77,7 +79,7 @@ impl<A: Allocator> Table<A> {
     /// for `limit` neighbors, 1 to 128, of 1,500 octets each. Fails if there is not enough memory.
     pub fn open(alloc: A, limit: u8) -> Result<Table<A>, AllocError>
         requires least { 0 < limit }
-        requires most { limit ≤ 128 }
+        requires most { limit ≤ most_neighbors }
         ensures empty { IfOk result (λ table. table.shown ≡ newly_opened limit) }
         ensures stands { IfOk result (λ table. Stands limit [] table.shown) }
     {
@@ -100,7 +102,7 @@ impl<A: Allocator> Table<A> {
     /// call.
     #[inline(always)]
     pub fn learn(&mut self, info: &Info<'_>) -> Learned
-        requires { length info.now.octets ≤ 1500 }
+        requires { length info.now.octets ≤ most_octets }
         ensures answer { result ≡ learn_answer self.old.shown info.now.msap }
         ensures after { self.new.shown ≡ after_learn self.old.shown info.now.msap info.now.ttl info.now.octets }
         ensures extent { IsExtent info.now.msap info.now.ttl info.now.octets }
@@ -116,7 +118,7 @@ impl<A: Allocator> Table<A> {
     /// Does the same as `learn`, and also tells whether a neighbor that was held sent the same
     /// octets as before.
     pub fn store(&mut self, info: &Info<'_>) -> Outcome
-        requires { length info.now.octets ≤ 1500 }
+        requires { length info.now.octets ≤ most_octets }
         ensures outcome { result ≡ store_outcome self.old.shown info.now.msap info.now.octets }
         ensures between { result ≡ outcome_between (octets_held self.old.shown info.now.msap)
             (octets_held self.new.shown info.now.msap) }
@@ -306,7 +308,7 @@ impl<A: Allocator> Table<A> {
     /// Returns how many octets are stored for all neighbors together: at most 1,500 for each.
     pub fn octets(&self) -> u32
         ensures sum { result ≡ sum_by (λ neighbor. length neighbor.octets) self.now.shown.neighbors }
-        ensures most { result ≤ 1500 * length self.now.shown.neighbors }
+        ensures most { result ≤ most_octets * length self.now.shown.neighbors }
     {
         octets_of(self.slots.as_slice(), &self.order[..self.used as usize])
     }

@@ -1,13 +1,16 @@
 -- The text of capabilities grows by at most one name with each bit.
 use Rattle.std.proofs.Common.{◌≡◌, ℕ, ◌+◌, ◌<◌, Bool, true, false, List, [], ◌∷◌, ◌++◌, length, get_or, take, map, refl, ◌∙◌, append-nil, zero-add, arith}
-use Rattle.std.specs.List.{join_with_byte, filter}
+use Rattle.std.specs.List.{join_with_byte, filter, range_with_len}
 use Rattle.std.proofs.lemmas.List.{map-append, length-map, length-append}
 use Rattle.std.proofs.lemmas.List.Elements.{filter_more}
 use Rattle.std.proofs.lemmas.List.FromFn.{get_or-range_with_len}
 use Rattle.lldp_text.specs.Text.{separator}
-use Rattle.lldp_text.specs.Capabilities.{capability_bits}
 use Rattle.lldp_text.proofs.TextJoined.{join_push, grown}
 use Rattle.std.proofs.lemmas.Grind.{common_steps}
+
+-- the bits 0 to 15
+abbrev pub capability_bits : List ℕ
+capability_bits = range_with_len 0 16
 
 bit_is : (i : ℕ) → i < 16 → get_or capability_bits i 0 ≡ i
 bit_is i h = get_or-range_with_len 0 16 i 0 h ∙ zero-add i

@@ -1,10 +1,5 @@
 -- Functions on results, which are a value or a fault.
-use Rattle.std.specs.Prelude.{Option, Some, None, Result, Ok, Err}
-
--- the value of an option, or this fault if the option is None
-abbrev pub or_fault : {A E : Type 0} → Option A → E → Result A E
-or_fault (Some a) fault = Ok a
-or_fault None fault = Err fault
+use Rattle.std.specs.Prelude.{Result, Ok, Err}
 
 -- applies a function to the value of a result; a fault stays as it is
 abbrev pub on_ok : {A B E : Type 0} → (A → B) → Result A E → Result B E

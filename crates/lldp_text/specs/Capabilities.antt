@@ -12,14 +12,6 @@ capability_names =
     ∷ codes "Cvlan" ∷ codes "Svlan" ∷ codes "Tpmr" ∷ codes "bit11"
     ∷ codes "bit12" ∷ codes "bit13" ∷ codes "bit14" ∷ codes "bit15" ∷ []
 
--- the name of a capability bit
-abbrev pub capability_name : ℕ → List ℕ
-capability_name bit = slice_index_or capability_names bit []
-
--- the bits 0 to 15
-abbrev pub capability_bits : List ℕ
-capability_bits = range_with_len 0 16
-
 -- true if this bit of n is 1
 abbrev pub is_set : ℕ → ℕ → Bool
 is_set n bit = bit_at n bit == 1
@@ -28,10 +20,12 @@ is_set n bit = bit_at n bit == 1
 abbrev pub on_or_off : Bool → List ℕ
 on_or_off on = if on then codes "on" else codes "off"
 
--- the name of a capability, a colon, and `on` or `off`
+-- the name of a bit, a colon, and `on` or `off`
 abbrev pub capability_text : Caps → ℕ → List ℕ
-capability_text caps bit = capability_name bit ++ codes ":" ++ on_or_off (is_set caps.enabled bit)
+capability_text caps bit =
+    slice_index_or capability_names bit [] ++ codes ":" ++ on_or_off (is_set caps.enabled bit)
 
--- The available capabilities in the order of their bits, joined by commas.
+-- The available capabilities in the order of their bits, 0 to 15, joined by commas.
 abbrev pub capabilities_text : Caps → List ℕ
-capabilities_text caps = join_with_byte 44 (map (capability_text caps) (filter (is_set caps.available) capability_bits))
+capabilities_text caps =
+    join_with_byte 44 (map (capability_text caps) (filter (is_set caps.available) (range_with_len 0 16)))

@@ -9,34 +9,24 @@ use Rattle.lldp_text.specs.Text.{escaped}
 use Rattle.lldp_text.specs.Capabilities.{capabilities_text}
 use Rattle.lldp_text.specs.ManagementAddress.{management_text}
 
--- a System Capabilities TLV as key and value
-abbrev pub system_capabilities_text : List ℕ → List ℕ
-system_capabilities_text body = codes "chassis.caps=" ++ capabilities_text (caps_fields body)
-
--- a Management Address TLV as key and value
-abbrev pub management_tlv_text : List ℕ → List ℕ
-management_tlv_text body = codes "chassis.mgmt=" ++ management_text (address_fields body (slice_index body 0))
-
 -- an organizationally specific TLV: the OUI (three octets) and the subtype as key, then the rest
 abbrev pub organizational_text : List ℕ → List ℕ
 organizational_text body =
     codes "org." ++ encode_lower (take 3 body) ++ codes "." ++ decimal (slice_index body 3) ++ codes "="
     ++ encode_lower (drop 4 body)
 
--- a TLV of a reserved type: the type as key, and the body in hexadecimal
-abbrev pub unknown_text : TlvUnit → List ℕ
-unknown_text tlv = codes "unknown." ++ decimal tlv.kind ++ codes "=" ++ encode_lower tlv.body
-
--- A kept TLV as key and value, by its type.
+-- A kept TLV as key and value, by its type. One of a reserved type has the type as key, and the body
+-- in hexadecimal.
 abbrev pub tlv_text : TlvUnit → List ℕ
 tlv_text tlv =
     if tlv.kind == port_description_type then codes "port.descr=" ++ escaped tlv.body
     else if tlv.kind == system_name_type then codes "chassis.name=" ++ escaped tlv.body
     else if tlv.kind == system_description_type then codes "chassis.descr=" ++ escaped tlv.body
-    else if tlv.kind == system_capabilities_type then system_capabilities_text tlv.body
-    else if tlv.kind == management_address_type then management_tlv_text tlv.body
+    else if tlv.kind == system_capabilities_type then codes "chassis.caps=" ++ capabilities_text (caps_fields tlv.body)
+    else if tlv.kind == management_address_type then
+    codes "chassis.mgmt=" ++ management_text (address_fields tlv.body (slice_index tlv.body 0))
     else if tlv.kind == organizationally_specific_type then organizational_text tlv.body
-    else unknown_text tlv
+    else codes "unknown." ++ decimal tlv.kind ++ codes "=" ++ encode_lower tlv.body
 
 -- the body holds a management address of at most 31 octets, and an OID of at most 128 octets
 pub record HasAddress (body : List ℕ) : Type 0 where

@@ -3,9 +3,13 @@ use Rattle.std.specs.Prelude.{ℕ, zero, suc, Bool, not, ◌&&◌, ◌==◌, nat
 use Rattle.std.specs.List.{flat_map, list_all}
 use Rattle.hex.specs.Hex.{encode_lower}
 
+-- the most octets of a text
+abbrev pub most_text : ℕ
+most_text = 255
+
 -- true if the text has at most 255 octets, each from the space to the tilde
 abbrev pub is_text : List ℕ → Bool
-is_text text = nat_le (length text) 255 && list_all (λ c. nat_le 32 c && nat_le c 126) text
+is_text text = nat_le (length text) most_text && list_all (λ c. nat_le 32 c && nat_le c 126) text
 
 -- true if escaping leaves the octet unchanged: from the space to the tilde, except the backslash
 abbrev pub is_plain : ℕ → Bool

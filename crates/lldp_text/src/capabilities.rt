@@ -1,6 +1,7 @@
 //! Writes System Capabilities.
-ghost use Rattle.std.specs.Prelude.{◌≡◌, ◌+◌, ◌*◌, ◌<◌, ◌≤◌, ◌++◌, length};
-ghost use Rattle.lldp_text.specs.Capabilities.{capability_name, is_set, on_or_off, capability_text, capabilities_text};
+ghost use Rattle.std.specs.Prelude.{◌≡◌, ◌+◌, ◌*◌, ◌<◌, ◌≤◌, ◌++◌, length, []};
+ghost use Rattle.lldp_text.specs.Capabilities.{capability_names, is_set, on_or_off, capability_text, capabilities_text};
+ghost use Rattle.std.specs.List.{slice_index_or};
 
 use crate::appending::{Append, write_separator};
 use lldp_pdu::Caps;
@@ -11,7 +12,7 @@ const BITS: u8 = 16;
 /// Returns the name of a capability bit.
 fn name_of_bit(bit: u8) -> &'static [u8]
     requires { bit < 16 }
-    ensures value { result.now ≡ capability_name bit }
+    ensures value { result.now ≡ slice_index_or capability_names bit [] }
     ensures short { length result.now ≤ 8 }
 {
     match bit {

@@ -6,7 +6,8 @@ ghost use Rattle.lldp_pdu.specs.View.{tlv_view};
 ghost use Rattle.lldp_text.specs.declared.writing.TheConstants.{ROOM, VALUE_ROOM};
 ghost use Rattle.lldp_text.specs.Tail.{tail_text, tail_room};
 ghost use Rattle.lldp_text.specs.Text.{escaped};
-ghost use Rattle.lldp_text.specs.KeptTlv.{system_capabilities_text, management_tlv_text, organizational_text, unknown_text, tlv_text, HasAddress};
+ghost use Rattle.lldp_text.specs.KeptTlv.{organizational_text, tlv_text, HasAddress};
+ghost use Rattle.lldp_text.specs.Code.Kept.{system_capabilities_text, management_tlv_text, unknown_text};
 
 use crate::appending::{Append, write_decimal};
 use crate::capabilities::write_capabilities;

@@ -24,7 +24,7 @@ pub use fault::CommandFault;
 pub use identifier::{begin_chassis, begin_port, write_chassis, write_port};
 pub use kept_tlv::{begin_kept_tlv, write_kept_tlv};
 pub use numbers::number;
-pub use printable::is_printable_text;
+pub use printable::{MOST_TEXT, is_printable_text};
 pub use splitting::{Words, split, split_at_bare};
 pub use tail::Tail;
 pub use writing::{LINE_ROOM, Line, ROOM, Writer};

@@ -1,7 +1,10 @@
 //! Checks texts, such as hostnames and descriptions.
 ghost use Rattle.std.specs.Prelude.{◌≡◌, ◌≤◌, IsTrue, nat_le, ◌&&◌, length};
 ghost use Rattle.std.specs.List.{list_all};
-ghost use Rattle.lldp_text.specs.Text.{is_text};
+ghost use Rattle.lldp_text.specs.Text.{is_text, most_text};
+
+/// The most octets of a text.
+pub const MOST_TEXT: usize = 255;
 
 fn all_printable(text: &[u8]) -> bool
     ensures { result ≡ list_all (λ c. nat_le 32 c && nat_le c 126) text.now }
@@ -17,9 +20,9 @@ fn all_printable(text: &[u8]) -> bool
 /// Returns whether the text has at most 255 octets, each from the space to the tilde.
 pub fn is_printable_text(text: &[u8]) -> bool
     ensures value { result ≡ is_text text.now }
-    ensures short { IsTrue result → length text.now ≤ 255 }
+    ensures short { IsTrue result → length text.now ≤ most_text }
 {
-    if text.len() > 255 {
+    if text.len() > MOST_TEXT {
         return false;
     }
     all_printable(text)

@@ -1,9 +1,8 @@
 //! Splits a line into words, which are separated by spaces and tabs and may be quoted.
-ghost use Rattle.std.specs.Prelude.{◌≡◌, ℕ, ◌<◌, ◌≤◌, List, [], ◌∷◌, ◌++◌, length, false, is_some, is_ok, IsTrue, IsSomeAnd, IfOk, IfErr, IfSome, IfNone, MatchResult, MatchOption, Some, None};
+ghost use Rattle.std.specs.Prelude.{◌≡◌, ℕ, ◌<◌, ◌≤◌, List, [], ◌∷◌, ◌++◌, length, false, is_some, is_ok, IsTrue, IsSomeAnd, IfOk, IfErr, IfSome, IfNone, MatchResult, MatchOption, Some, None, ok_or};
 ghost use Rattle.std.specs.Option.{option_map};
 ghost use Rattle.std.specs.List.{AllPass, AllByRecursion};
 ghost use Rattle.std.specs.Iterator.{YieldsFirstRef, item_count};
-ghost use Rattle.lldp_text.specs.Answer.{or_fault};
 ghost use Rattle.lldp_text.specs.Words.{words_of, is_separator, is_bare, is_unquote, may_end_word, begins_bare, begins_gap};
 
 use crate::fault::CommandFault;
@@ -149,7 +148,7 @@ fn check_quotes(line: &[u8]) -> Result<(), CommandFault>
 /// unquoted word or is not closed, or if a closing `"` is followed by anything but a separator or
 /// the end of the line. No word is longer than its line.
 pub fn split(line: &[u8]) -> Result<Words<'_>, CommandFault>
-    ensures words { result ≡ or_fault (words_of line.now) CommandFault.Quote }
+    ensures words { result ≡ ok_or (words_of line.now) CommandFault.Quote }
     ensures short { IfOk result (λ words.
         AllByRecursion (λ word. length word ≤ length line.now) words) }
 {

@@ -1,6 +1,7 @@
 pub mod Code
 pub mod Fronts
 pub mod History
+pub mod Ranges
 pub mod Moments
 pub mod Positions
 pub mod Remaining

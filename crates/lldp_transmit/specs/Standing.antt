@@ -4,15 +4,16 @@ use Rattle.lldp_transmit.specs.History.{Settings, History}
 use Rattle.lldp_transmit.specs.Code.Machine.{Machine}
 use Rattle.lldp_transmit.specs.Moments.{moments, is_active, is_allowed, is_up, is_waiting, signals_left}
 use Rattle.lldp_transmit.specs.Remaining.{credit_left, until_start, until_signal}
+use Rattle.lldp_transmit.specs.Ranges.{most_credit_max, most_fast_init, most_reinit}
 
 -- the ranges of a port's settings: txCreditMax 1 to 10, txFastInit 1 to 8, reinitDelay 1 to 10
 pub record AreSettings (s : Settings) : Type 0 where
   pub some_credit : 1 ≤ s.credit_max
-  pub most_credit : s.credit_max ≤ 10
+  pub most_credit : s.credit_max ≤ most_credit_max
   pub some_fast : 1 ≤ s.fast_init
-  pub most_fast : s.fast_init ≤ 8
+  pub most_fast : s.fast_init ≤ most_fast_init
   pub some_wait : 1 ≤ s.reinit
-  pub most_wait : s.reinit ≤ 10
+  pub most_wait : s.reinit ≤ most_reinit
 
 -- the machine after these events, computed from the definitions in `Moments`
 unfoldable pub machine_of : Settings → History → Machine

@@ -23,7 +23,7 @@ use Rattle.lldp_engine.proofs.Standing.Carrying.{carries}
 use Rattle.lldp_engine.specs.Port.Past.{Happened, port_after}
 use Rattle.lldp_engine.proofs.Readers.{ports_are}
 use Rattle.lldp_engine.specs.Standing.{Stands}
-use Rattle.lldp_engine.specs.Port.Event.{each_port, tick as port_tick}
+use Rattle.lldp_engine.specs.Port.Event.{tick as port_tick}
 use Rattle.lldp_engine.specs.declared.port.counters.Counters.{Counters}
 use Rattle.lldp_engine.specs.Counters.{wrapped}
 use Rattle.lldp_engine.specs.Code.Counting.{with_aged_out, with_mark}
@@ -33,6 +33,7 @@ use Rattle.lldpa_c.specs.Ticks.{held_by, ticked, with_ticks, IsQuiet}
 use Rattle.lldpa_c.specs.Due.{until_sends, due_on, timeless_machine, timeless_counters, timeless_neighbors, timeless_port, timeless, IsDue}
 use Rattle.lldpa_c.specs.declared.due.TheConstants.{NEVER}
 use Rattle.lldpa_c.proofs.Ticking.{no_longer, fewer, held_step}
+use Rattle.lldp_engine.specs.Code.Whose.{each_port}
 
 -- ---- the smaller of two numbers
 

@@ -10,7 +10,7 @@ use Rattle.lldp_engine.specs.AgentState.{AgentState, PortState}
 use Rattle.lldp_engine.specs.Event.{tick}
 use Rattle.lldp_engine.specs.Past.{with_event, sending}
 use Rattle.lldp_engine.specs.Standing.{Stands}
-use Rattle.lldp_engine.specs.Port.Event.{each_port, tick as port_tick}
+use Rattle.lldp_engine.specs.Port.Event.{tick as port_tick}
 use Rattle.lldp_engine.specs.Code.Step.{ports_step, marks_step, agent_after, agent_marks}
 use Rattle.lldp_engine.proofs.Headline.{have_sent_exactly}
 use Rattle.lldp_engine.proofs.Headline.Answered.{promised_step}
@@ -19,6 +19,7 @@ use Rattle.lldpa_c.specs.Agent.{Steps}
 use Rattle.lldpa_c.specs.Ticks.{ticked, Takes}
 use Rattle.lldpa_c.specs.Still.{may_go, IsStillMachine, IsStill}
 use Rattle.lldpa_c.proofs.Ticking.{TakesSo, one_more}
+use Rattle.lldp_engine.specs.Code.Whose.{each_port}
 
 -- ---- a machine
 

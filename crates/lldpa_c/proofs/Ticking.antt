@@ -11,10 +11,11 @@ use Rattle.lldp_engine.specs.AgentState.{AgentState, PortState}
 use Rattle.lldp_engine.specs.Event.{tick}
 use Rattle.lldp_engine.specs.Past.{Past}
 use Rattle.lldp_engine.specs.Standing.{Stands}
-use Rattle.lldp_engine.specs.Port.Event.{each_port, tick as port_tick}
+use Rattle.lldp_engine.specs.Port.Event.{tick as port_tick}
 use Rattle.lldp_engine.specs.Code.Step.{ports_step, agent_after, agent_marks}
 use Rattle.lldpa_c.specs.Agent.{Steps}
 use Rattle.lldpa_c.specs.Ticks.{held_by, neighbors_held, AgesOut, ticked, with_ticks, IsQuiet, LastDid, LastPromised}
+use Rattle.lldp_engine.specs.Code.Whose.{each_port}
 
 -- ---- how many neighbors the ports hold
 

@@ -4,6 +4,7 @@ use Rattle.lldp_engine.specs.declared.agent.options.Role.{Role}
 use Rattle.lldp_engine.specs.declared.agent.options.Role.TheVariants.{Station, Bridge, Router}
 use Rattle.lldp_engine.specs.AgentState.{AgentState}
 use Rattle.lldpa_c.specs.declared.chassis.LldpaChassis.{LldpaChassis}
+use Rattle.lldp_text.specs.Text.{most_text}
 
 -- the number of a role
 abbrev pub role_number : Role → ℕ
@@ -19,7 +20,7 @@ pub record TellsChassis (agent : AgentState) (told : LldpaChassis) : Type 0 wher
   pub management : (if told.managed then Some told.management else None) ≡ agent.configuration.management
   pub none : agent.configuration.management ≡ None → told.management ≡ replicate 4 0
   pub hostname : take told.hostname_length told.hostname ≡ agent.configuration.hostname
-  pub behind_hostname : drop told.hostname_length told.hostname ≡ drop told.hostname_length (replicate 255 0)
+  pub behind_hostname : drop told.hostname_length told.hostname ≡ drop told.hostname_length (replicate most_text 0)
   pub description : take told.description_length told.description ≡ agent.configuration.description
   pub behind_description :
-      drop told.description_length told.description ≡ drop told.description_length (replicate 255 0)
+      drop told.description_length told.description ≡ drop told.description_length (replicate most_text 0)

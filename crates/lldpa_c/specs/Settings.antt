@@ -5,6 +5,7 @@ use Rattle.lldp_engine.specs.declared.port.status.Status.TheVariants.{RxAndTx, R
 use Rattle.lldp_engine.specs.Configuration.{sent_ttl}
 use Rattle.lldp_engine.specs.AgentState.{AgentState}
 use Rattle.lldpa_c.specs.declared.settings.LldpaConfiguration.{LldpaConfiguration}
+use Rattle.lldp_engine.specs.Ranges.{most_ports}
 
 -- the number of a status
 abbrev pub status_number : Status → ℕ
@@ -24,4 +25,4 @@ pub record TellsConfiguration (agent : AgentState) (told : LldpaConfiguration) :
   pub max_neighbors : told.max_neighbors ≡ agent.configuration.limit
   pub ports : told.ports ≡ length agent.ports
   pub status : take told.ports told.status ≡ map (λ port. status_number port.status) agent.ports
-  pub others : drop told.ports told.status ≡ drop told.ports (replicate 64 0)
+  pub others : drop told.ports told.status ≡ drop told.ports (replicate most_ports 0)

@@ -2,10 +2,12 @@
 ghost use Rattle.std.specs.Prelude.{◌≡◌, ◌≤◌, length, take, drop, replicate};
 ghost use Rattle.lldpa_c.specs.Chassis.{role_number, TellsChassis};
 ghost use Rattle.lldpa_c.specs.Reading.{ReadsChassis};
+ghost use Rattle.lldp_text.specs.Text.{most_text};
 
 use crate::answer::{NOT_OPEN, OK};
 use crate::holder::LldpaAgent;
 use lldp_engine::{Agent, Role};
+use lldp_text::MOST_TEXT;
 use std::alloc::Global;
 
 /// What an agent says about its host.
@@ -22,9 +24,9 @@ pub struct LldpaChassis {
     pub hostname_length: u8,
     pub description_length: u8,
     /// The system name, followed by zeros.
-    pub hostname: [u8; 255],
+    pub hostname: [u8; MOST_TEXT],
     /// The system description, followed by zeros.
-    pub description: [u8; 255],
+    pub description: [u8; MOST_TEXT],
 }
 
 /// Returns the number of a role.
@@ -39,12 +41,12 @@ fn role_number(role: Role) -> u8
 }
 
 /// Returns the text, followed by zeros.
-fn with_zeros(text: &[u8]) -> [u8; 255]
-    requires { length text.now ≤ 255 }
+fn with_zeros(text: &[u8]) -> [u8; MOST_TEXT]
+    requires { length text.now ≤ most_text }
     ensures text { take (length text.now) result ≡ text.now }
-    ensures zeros { drop (length text.now) result ≡ drop (length text.now) (replicate 255 0) }
+    ensures zeros { drop (length text.now) result ≡ drop (length text.now) (replicate most_text 0) }
 {
-    let mut octets = [0; 255];
+    let mut octets = [0; MOST_TEXT];
     octets[..text.len()].copy_from_slice(text);
     octets
 }

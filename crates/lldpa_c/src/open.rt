@@ -12,7 +12,9 @@ use crate::faults::refusal_number;
 use crate::holder::LldpaAgent;
 use crate::options::{LldpaOptions, LldpaText};
 use arrayvec::ArrayVec;
-use lldp_engine::{Agent, OpenFault, Options, Role};
+use lldp_engine::{
+    Agent, MOST_CREDIT, MOST_FAST, MOST_NEIGHBORS, MOST_REINIT, OpenFault, Options, Role,
+};
 use std::alloc::Global;
 
 /// Returns the role with this number, if there is one.
@@ -49,10 +51,10 @@ fn names_of<'a>(ports: &'a [LldpaText<'a>]) -> Option<ArrayVec<&'a str, 65>>
 fn are_in_range(options: &LldpaOptions<'_>) -> bool
     ensures { IsTrue result ↔ InRange (asked options.now) }
 {
-    (1..=128).contains(&options.max_neighbors)
-        && (1..=10).contains(&options.credit_max)
-        && (1..=8).contains(&options.fast_init)
-        && (1..=10).contains(&options.reinit)
+    (1..=u32::from(MOST_NEIGHBORS)).contains(&options.max_neighbors)
+        && (1..=u32::from(MOST_CREDIT)).contains(&options.credit_max)
+        && (1..=u32::from(MOST_FAST)).contains(&options.fast_init)
+        && (1..=u32::from(MOST_REINIT)).contains(&options.reinit)
 }
 
 /// Opens an agent with these options. Returns it in a box, or the number of the error.

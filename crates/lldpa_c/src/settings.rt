@@ -2,10 +2,11 @@
 ghost use Rattle.std.specs.Prelude.{◌≡◌, length, map, take, drop, replicate};
 ghost use Rattle.lldpa_c.specs.Reading.{ReadsStatistics, ReadsConfiguration};
 ghost use Rattle.lldpa_c.specs.Settings.{status_number, TellsConfiguration};
+ghost use Rattle.lldp_engine.specs.Ranges.{most_ports};
 
 use crate::answer::{NO_PORT, NOT_OPEN, OK};
 use crate::holder::LldpaAgent;
-use lldp_engine::{Agent, Counters, Status};
+use lldp_engine::{Agent, Counters, MOST_PORTS, Status};
 use std::alloc::Global;
 
 /// The current settings of an agent.
@@ -23,7 +24,7 @@ pub struct LldpaConfiguration {
     pub max_neighbors: u32,
     pub ports: u32,
     /// The number of each port's status. Elements after the last port are 0.
-    pub status: [u8; 64],
+    pub status: [u8; MOST_PORTS],
 }
 
 /// Writes the counters of a port.
@@ -61,13 +62,13 @@ fn status_number(status: Status) -> u8
 }
 
 /// Returns the number of each port's status. Elements after the last port are 0.
-fn statuses(agent: &Agent) -> [u8; 64]
+fn statuses(agent: &Agent) -> [u8; MOST_PORTS]
     ensures status { take (length agent.now.ports) result
         ≡ map (λ p. status_number p.status) agent.now.ports }
     ensures others { drop (length agent.now.ports) result
-        ≡ drop (length agent.now.ports) (replicate 64 0) }
+        ≡ drop (length agent.now.ports) (replicate most_ports 0) }
 {
-    let mut statuses = [0; 64];
+    let mut statuses = [0; MOST_PORTS];
     for port in 0..agent.ports() {
         statuses[port as usize] = status_number(agent.status(port));
     }

@@ -9,10 +9,11 @@ use Rattle.lldp_transmit.specs.declared.event.Mark.{Mark}
 use Rattle.lldp_transmit.specs.declared.event.Mark.TheVariants.{Quiet, Ordinary, Shutdown}
 use Rattle.lldp_engine.specs.AgentState.{PortState}
 use Rattle.lldp_engine.specs.Past.{Sending, sending}
-use Rattle.lldp_engine.specs.Port.Event.{PortEvent, nothing, one_port, each_port, for_port}
+use Rattle.lldp_engine.specs.Port.Event.{PortEvent, nothing}
 use Rattle.lldp_engine.specs.Code.PortStep.{port_step, port_mark}
 use Rattle.lldp_engine.specs.Code.Step.{ports_step, marks_step}
 use Rattle.std.proofs.lemmas.Grind.{common_steps}
+use Rattle.lldp_engine.specs.Code.Whose.{one_port, each_port, of_port}
 
 -- P holds for `if b then event else nothing` if it holds for `event` and for `nothing`.
 pub own_or_nothing : (P : PortEvent → Type 0) (b : Bool) (event : PortEvent) → P event → P nothing → P (if b then event else nothing)
@@ -21,17 +22,17 @@ own_or_nothing P false event own none = none
 
 -- ## An event for one port
 
-other : (event : PortEvent) (q i : ℕ) → (q ≡ i → ⊥) → for_port i (one_port q event) ≡ nothing
+other : (event : PortEvent) (q i : ℕ) → (q ≡ i → ⊥) → of_port i (one_port q event) ≡ nothing
 other event q i h = let no : (q == i) ≡ false = grind (arith, nat_tests) in rw no refl
 
-own : (event : PortEvent) (q : ℕ) → for_port q (one_port q event) ≡ event
+own : (event : PortEvent) (q : ℕ) → of_port q (one_port q event) ≡ event
 own event q = let yes : (q == q) ≡ true = grind (arith, nat_tests) in rw yes refl
 
 -- An event for one port does not change another port.
-after_other : (event : PortEvent) (n q i : ℕ) (p : PortState) → (q ≡ i → ⊥) → port_step (for_port i (one_port q event)) n p ≡ p
+after_other : (event : PortEvent) (n q i : ℕ) (p : PortState) → (q ≡ i → ⊥) → port_step (of_port i (one_port q event)) n p ≡ p
 after_other event n q i p h = ap (λ (e : PortEvent). port_step e n p) (other event q i h)
 
-mark_of_other : (event : PortEvent) (n q i : ℕ) (p : PortState) → (q ≡ i → ⊥) → port_mark (for_port i (one_port q event)) n p ≡ Quiet
+mark_of_other : (event : PortEvent) (n q i : ℕ) (p : PortState) → (q ≡ i → ⊥) → port_mark (of_port i (one_port q event)) n p ≡ Quiet
 mark_of_other event n q i p h = ap (λ (e : PortEvent). port_mark e n p) (other event q i h)
 
 later_same : (event : PortEvent) (n q s : ℕ) (ports : List PortState) → q < s → ports_step (one_port q event) n s ports ≡ ports

@@ -16,7 +16,7 @@ use Rattle.lldp_table.proofs.Standing.Sound.{sound_open, sound_after}
 use Rattle.lldp_engine.specs.Options.{Options, InRange, is_port_name}
 use Rattle.lldp_engine.specs.Event as agent
 use Rattle.lldp_engine.specs.Event.{Event}
-use Rattle.lldp_engine.specs.Port.Event.{PortEvent, Whose, one_port, each_port, whose, for_port}
+use Rattle.lldp_engine.specs.Port.Event.{PortEvent}
 use Rattle.lldp_engine.specs.AgentState.{AgentState, PortState, Allows, fits}
 use Rattle.lldp_engine.specs.Sound.{IsSoundPort, AreSound}
 use Rattle.lldp_engine.specs.Code.PortStep.{opened_port, with_call, port_step}
@@ -25,6 +25,7 @@ use Rattle.lldp_engine.specs.Code.Taking.{FitsLimit, AllFit, CanTake}
 use Rattle.lldp_engine.proofs.OnePort.Heard.{HasOctets, event_told}
 use Rattle.lldp_engine.proofs.AllPorts.EachPort.{own_or_nothing}
 use Rattle.std.proofs.lemmas.Grind.{common_steps}
+use Rattle.lldp_engine.specs.Code.Whose.{Whose, one_port, each_port, whose, of_port}
 
 abbrev pub AllSound : ℕ → List PortState → Type 0
 AllSound capacity ports = AllByRecursion (λ port. IsSoundPort capacity port) ports
@@ -70,24 +71,24 @@ none_for_all : (ports : List PortState) → AllByRecursion (λ (port : PortState
 none_for_all [] = tt
 none_for_all (p ∷ ps) = (tt, none_for_all ps)
 
-each_fits : (event : Whose) (i : ℕ) (ports : List PortState) → CanTake event ports → AllFit (for_port i event) ports
+each_fits : (event : Whose) (i : ℕ) (ports : List PortState) → CanTake event ports → AllFit (of_port i event) ports
 each_fits (one_port port event) i ports f = own_or_nothing (λ e. AllFit e ports) (port == i) event f.1 (none_for_all ports)
 each_fits (each_port event) i ports f = f
 
 port_sound : (capacity : ℕ) (event : PortEvent) (n : ℕ) (p : PortState) → HasOctets event → FitsLimit event p.table → IsSoundPort capacity p → IsSoundPort capacity (port_step event n p)
 port_sound capacity event n p h f s = grind (arith, common_steps, with_call_sound, event_told, with_call_room)
 
-ports_sound : (capacity : ℕ) (event : Whose) (n i : ℕ) (ports : List PortState) → ((k : ℕ) → HasOctets (for_port k event)) → ((k : ℕ) → AllFit (for_port k event) ports) → AllSound capacity ports
+ports_sound : (capacity : ℕ) (event : Whose) (n i : ℕ) (ports : List PortState) → ((k : ℕ) → HasOctets (of_port k event)) → ((k : ℕ) → AllFit (of_port k event) ports) → AllSound capacity ports
     → AllSound capacity (ports_step event n i ports)
 ports_sound capacity event n i [] h f s = tt
 ports_sound capacity event n i (p ∷ ps) h f s =
-    (port_sound capacity (for_port i event) n p (h i) (f i).0 s.0, ports_sound capacity event n (i + 1) ps h (λ k. (f k).1) s.1)
+    (port_sound capacity (of_port i event) n p (h i) (f i).0 s.0, ports_sound capacity event n (i + 1) ps h (λ k. (f k).1) s.1)
 
 pub ports_number : (event : Whose) (n i : ℕ) (ports : List PortState) → length (ports_step event n i ports) ≡ length ports
 ports_number event n i [] = omega arith
 ports_number event n i (p ∷ ps) = omega (arith, ports_number event n (i + 1) ps)
 
-pub stay_sound : (capacity : ℕ) (event : Whose) (n : ℕ) (ports new : List PortState) → new ≡ ports_step event n 0 ports → ((k : ℕ) → HasOctets (for_port k event)) → CanTake event ports
+pub stay_sound : (capacity : ℕ) (event : Whose) (n : ℕ) (ports new : List PortState) → new ≡ ports_step event n 0 ports → ((k : ℕ) → HasOctets (of_port k event)) → CanTake event ports
     → AreSound capacity ports → AreSound capacity new
 stay_sound capacity event n ports new e h f s = grind (arith, common_steps, ports_number, ports_sound, each_fits)
 

@@ -9,13 +9,14 @@ use Rattle.lldp_engine.specs.Event as agent
 use Rattle.lldp_engine.specs.Event.{Event}
 use Rattle.lldp_engine.specs.AgentState.{AgentState, PortState}
 use Rattle.lldp_engine.specs.Sound.{IsSoundPort}
-use Rattle.lldp_engine.specs.Port.Event.{PortEvent, frame, link, status, one_port}
+use Rattle.lldp_engine.specs.Port.Event.{PortEvent, frame, link, status}
 use Rattle.lldp_engine.specs.Code.PortStep.{port_step}
 use Rattle.lldp_engine.specs.Code.Step.{ports_step, agent_after}
 use Rattle.lldp_engine.specs.Told.{Told, nothing, TellsFrame, Tells}
 use Rattle.lldp_engine.specs.Code.Telling.{told_at, port_told, agent_told}
 use Rattle.lldp_engine.proofs.OnePort.Telling.{tells_frame}
 use Rattle.lldp_engine.proofs.AllPorts.Sound.{AllSound}
+use Rattle.lldp_engine.specs.Code.Whose.{one_port}
 
 own_step : (event : PortEvent) (n s k q : ℕ) (ports : List PortState) → q ≡ s + k → slice_get (ports_step (one_port q event) n s ports) k ≡ option_map (port_step event n) (slice_get ports k)
 own_step event n s k q [] e = refl

@@ -30,7 +30,7 @@ use Rattle.lldp_engine.specs.Status.{receives}
 use Rattle.lldp_engine.specs.Event.{event_of, frame}
 use Rattle.lldp_engine.specs.Configuration.{Configuration as Configured, configured}
 use Rattle.lldp_engine.specs.AgentState.{AgentState, PortState, Allows, names_of}
-use Rattle.lldp_engine.specs.Port.Event.{whose, for_port}
+use Rattle.lldp_engine.specs.Port.Event.{for_port}
 use Rattle.lldp_engine.specs.Command.{command_of}
 use Rattle.lldp_engine.specs.Given.{said_by, command_said}
 use Rattle.lldp_engine.specs.Told.{stored, left, told_of, told_of_pdu, told_of_frame, Tells}
@@ -51,7 +51,7 @@ set_alike (Set (setting.Hold times)) c = refl
 set_alike (Set (setting.Limit neighbors)) c = refl
 set_alike event c = refl
 
-pub come_alike : (event : Event) (i : ℕ) → for_port i (whose (event_of event)) ≡ comes_to i event
+pub come_alike : (event : Event) (i : ℕ) → for_port i (event_of event) ≡ comes_to i event
 come_alike (Set (setting.Status port given)) i = refl
 come_alike (Set (setting.Limit neighbors)) i = refl
 come_alike event i = refl

@@ -15,20 +15,21 @@ use Rattle.lldp_engine.specs.Laws.LastSet.{IsLastLink}
 use Rattle.lldp_engine.specs.Past.{Past, happened, past_of}
 use Rattle.lldp_engine.specs.Laws.PortAt.{LeavesPort}
 use Rattle.lldp_engine.specs.Laws.Deaf.{HasStatus, Hears}
-use Rattle.lldp_engine.specs.Port.Event.{PortEvent, frame, one_port, for_port}
+use Rattle.lldp_engine.specs.Port.Event.{PortEvent, frame}
 use Rattle.lldp_engine.specs.Port.Effects.{call_of, cause_of_heard}
 use Rattle.lldp_engine.specs.Port.Past.{Happened, status_after, up_after}
 use Rattle.lldp_engine.proofs.ForLaws.LastSet.{last_is_status, last_is_link}
 use Rattle.lldp_engine.proofs.ForLaws.PortAt.{answers}
 use Rattle.lldp_engine.proofs.ForLaws.Whose.{nothing_leaves}
+use Rattle.lldp_engine.specs.Code.Whose.{one_port, of_port}
 
 -- ## An event for the port itself
 
-pub of_own : (event : PortEvent) (i : ℕ) → for_port i (one_port i event) ≡ event
+pub of_own : (event : PortEvent) (i : ℕ) → of_port i (one_port i event) ≡ event
 of_own event i = let yes : (i == i) ≡ true = grind (arith, nat_tests) in rw yes refl
 
 -- An event for port i reaches port i unchanged, with any tx-interval.
-pub own_happened : (event : PortEvent) (i n : ℕ) → ◌≡◌ {A = Happened} (record { event = for_port i (one_port i event); interval = n }) (record { event = event; interval = n })
+pub own_happened : (event : PortEvent) (i n : ℕ) → ◌≡◌ {A = Happened} (record { event = of_port i (one_port i event); interval = n }) (record { event = event; interval = n })
 own_happened event i n = ap (λ (e : PortEvent). let h : Happened = record { event = e; interval = n } in h) (of_own event i)
 
 -- ## Ports that ignore frames

@@ -1,6 +1,6 @@
 -- The fault of a word that no command allows at its position.
 use Rattle.std.proofs.Common.{◌≡◌, ℕ, ◌<◌, Bool, true, false, ◌&&◌, List, [], ◌∷◌, ◌++◌, length, Option, Some, None, Result, Ok, Err, refl, sym, ap, ◌∙◌, subst, true≢false, arith}
-use Rattle.std.specs.Prelude.{if◌then◌else◌, codes}
+use Rattle.std.specs.Prelude.{if◌then◌else◌, codes, ok_or}
 use Rattle.std.specs.Bool.{Decides}
 use Rattle.std.specs.Str.{bytes_eq}
 use Rattle.std.specs.List.{AllByRecursion, Contains, list_any}
@@ -9,7 +9,7 @@ use Rattle.std.proofs.lemmas.Map.Views.{Contains-from_any}
 use Rattle.std.proofs.lemmas.Slice.Eq.{bytes_eq-Decides}
 use Rattle.lldp_text.specs.declared.fault.CommandFault.{CommandFault}
 use Rattle.lldp_text.specs.declared.fault.CommandFault.TheVariants.{Unknown, NoSuchPort, Text, Extra}
-use Rattle.lldp_text.specs.Answer.{or_fault, on_ok}
+use Rattle.lldp_text.specs.Answer.{on_ok}
 use Rattle.lldp_text.specs.Text.{is_text}
 use Rattle.lldp_text.specs.Number.{number_of}
 use Rattle.lldp_engine.specs.declared.command.Show.TheVariants.{Neighbors}
@@ -104,7 +104,7 @@ module _ (agent : AgentState) (w : List ℕ) (behind : List (List ℕ)) where
 
   -- the result of reading the words after a port's name; `place` is the number of that port
   abbrev with_port : Option ℕ → List (List ℕ) → Result Command CommandFault
-  with_port place words = read_forms names (one_left (on_ok status_form (or_fault place NoSuchPort))) words
+  with_port place words = read_forms names (one_left (on_ok status_form (ok_or place NoSuchPort))) words
 
   extra_words : (command : Command) (words : List (List ℕ)) → AreWordsOf agent command words → said_by agent (words ++ w ∷ behind) ≡ Err Extra
   extra_words (show Neighbors) words e = ap (λ ws. said_by agent (ws ++ w ∷ behind)) e
@@ -116,7 +116,7 @@ module _ (agent : AgentState) (w : List ℕ) (behind : List (List ℕ)) where
   extra_words (set (set_status port given)) words (name, at, e) =
       ap (λ ws. said_by agent (ws ++ w ∷ behind)) e
       ∙ ap (λ place. with_port place (codes "lldp" ∷ codes "status" ∷ word_of given ∷ w ∷ behind)) at
-      ∙ made_extra names w behind (or_fault (status_of (word_of given)) Unknown) (λ s. set (set_status port s)) given (ap (λ o. or_fault o Unknown) (own_word_read given))
+      ∙ made_extra names w behind (ok_or (status_of (word_of given)) Unknown) (λ s. set (set_status port s)) given (ap (λ o. ok_or o Unknown) (own_word_read given))
   extra_words command words e = ap (λ ws. said_by agent (ws ++ w ∷ behind)) e
 
   fixed_words : AllByRecursion (TakesOnly agent w behind) choices
@@ -143,7 +143,7 @@ module _ (agent : AgentState) (w : List ℕ) (behind : List (List ℕ)) where
         λ h. ap (λ place. with_port place (codes "lldp" ∷ w ∷ behind)) at ∙ stops names w behind (codes "status" ∷ []) (forms_left names (status_form port ∷ []) (codes "lldp")) (omega arith) refl h,
         (
           λ h. ap (λ place. with_port place (codes "lldp" ∷ codes "status" ∷ w ∷ behind)) at
-              ∙ ap (λ (o : Option Status). read_forms names (one_left (on_ok (λ s. complete (set (set_status port s))) (or_fault o Unknown))) behind) (no_status names w behind (status_of w) (read_by_word w) h),
+              ∙ ap (λ (o : Option Status). read_forms names (one_left (on_ok (λ s. complete (set (set_status port s))) (ok_or o Unknown))) behind) (no_status names w behind (status_of w) (read_by_word w) h),
           tt,
         ),
       ),

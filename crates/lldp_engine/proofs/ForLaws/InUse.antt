@@ -1,6 +1,6 @@
 -- The fault InUse: a command would set a limit below the number of neighbors of some port.
 use Rattle.std.proofs.Common.{◌≡◌, ℕ, suc, ◌<◌, ◌≤◌, ◌&&◌, Bool, true, false, List, [], ◌∷◌, length, Option, Some, None, Result, Ok, Err, refl, ap, ◌∙◌, subst, arith}
-use Rattle.std.specs.Prelude.{nat_le, if◌then◌else◌}
+use Rattle.std.specs.Prelude.{nat_le, if◌then◌else◌, ok_or}
 use Rattle.std.specs.Bool.{Decides}
 use Rattle.std.specs.List.{All, Any}
 use Rattle.std.specs.Str.{bytes_eq}
@@ -14,7 +14,7 @@ use Rattle.lldp_text.specs.Number.{is_number, number_of}
 use Rattle.lldp_engine.specs.Place.{place_of}
 use Rattle.lldp_engine.specs.Event.{limit}
 use Rattle.lldp_engine.specs.AgentState.{AgentState, PortState, AllowsSetting, names_of, fits}
-use Rattle.lldp_text.specs.Answer.{or_fault, on_ok, ◌>>=◌}
+use Rattle.lldp_text.specs.Answer.{on_ok, ◌>>=◌}
 use Rattle.lldp_engine.specs.Command.{Command, set}
 use Rattle.lldp_engine.specs.Forms.{Form, complete, word, port, number, text, status, status_of, after_word, fault_or, if_any, forms_left, first_fault, going_on, completed, read_forms, forms}
 use Rattle.lldp_engine.specs.Given.{said_by, unless_in_use, command_said, command_given}
@@ -37,17 +37,17 @@ if_other : {A : Type 0} (b : Bool) (r s : Result A CommandFault) → is_other r 
 if_other true r s h i = h
 if_other false r s h i = i
 
-or_other : {A : Type 0} (o : Option A) (fault : CommandFault) → is_other {A = A} (Err fault) ≡ true → is_other (or_fault o fault) ≡ true
+or_other : {A : Type 0} (o : Option A) (fault : CommandFault) → is_other {A = A} (Err fault) ≡ true → is_other (ok_or o fault) ≡ true
 or_other (Some a) fault h = refl
 or_other None fault h = h
 
 word_other : (names : List (List ℕ)) (form : Form) (w : List ℕ) → is_other (after_word names form w) ≡ true
 word_other names (complete command) w = refl
 word_other names (word expected next) w = if_other (bytes_eq w expected) (Ok next) (Err Unknown) refl refl
-word_other names (port next) w = made_other next (or_fault (place_of names w) NoSuchPort) (or_other (place_of names w) NoSuchPort refl)
+word_other names (port next) w = made_other next (ok_or (place_of names w) NoSuchPort) (or_other (place_of names w) NoSuchPort refl)
 word_other names (number least greatest next) w = made_other next (number_of w least greatest) (if_other (is_number w) _ (Err Number) (if_other _ (Ok _) (Err Range) refl refl) refl)
 word_other names (text next) w = if_other (is_text w) (Ok (next w)) (Err Text) refl refl
-word_other names (status next) w = made_other next (or_fault (status_of w) Unknown) (or_other (status_of w) Unknown refl)
+word_other names (status next) w = made_other next (ok_or (status_of w) Unknown) (or_other (status_of w) Unknown refl)
 
 fault_other : (names : List (List ℕ)) (left : List Form) (w : List ℕ) → is_other {A = Command} (Err (first_fault names left w)) ≡ true
 fault_other names [] w = refl
@@ -120,7 +120,7 @@ said_in_use : (agent : AgentState) (words : List (List ℕ)) (said : Result Comm
 said_in_use agent words (Ok command) e h = let found = command_in_use agent command h in (found.0, e ∙ ap Ok found.1, found.2)
 said_in_use agent words (Err fault) e h = absurd (not_said agent words (e ∙ h))
 
-given_in_use : (agent : AgentState) (line : List ℕ) (split : Option (List (List ℕ))) → words_of line ≡ split → (or_fault split Quote >>= command_said agent) ≡ Err InUse → WouldLimitBelow agent line
+given_in_use : (agent : AgentState) (line : List ℕ) (split : Option (List (List ℕ))) → words_of line ≡ split → (ok_or split Quote >>= command_said agent) ≡ Err InUse → WouldLimitBelow agent line
 given_in_use agent line None e h = absurd (not_in_use (Err Quote) refl h)
 given_in_use agent line (Some words) e h =
     let found = said_in_use agent words (said_by agent words) refl h in (words, found.0, e, found.1, found.2)
@@ -133,7 +133,7 @@ in_use_at agent most e = rw e refl
 
 pub would_be : (agent : AgentState) (line : List ℕ) → WouldLimitBelow agent line → command_given agent line ≡ Err InUse
 would_be agent line h =
-    ap (λ (w : Option (List (List ℕ))). or_fault w Quote >>= command_said agent) h.2
+    ap (λ (w : Option (List (List ℕ))). ok_or w Quote >>= command_said agent) h.2
     ∙ ap (unless_in_use agent.ports) h.3 ∙ in_use_at agent h.1 (not_all_hold agent.ports h.1 h.4)
 
 -- ## Limits that are allowed

@@ -30,7 +30,7 @@ use Rattle.lldp_engine.specs.Laws.PortAt.{port_at}
 use Rattle.lldp_engine.specs.Laws.LastSet.{IsLastStatus, IsLastLink}
 use Rattle.lldp_engine.specs.Laws.Deaf.{HasStatus, Hears}
 use Rattle.lldp_engine.specs.Laws.Tally.{Makes, CountsAgedOut, KeepsAgeouts, CountsDrop, KeepsDrops, KeepsReceived, HasNoRoom}
-use Rattle.lldp_engine.specs.Port.Event.{PortEvent, frame, link, status, nothing, whose, for_port}
+use Rattle.lldp_engine.specs.Port.Event.{PortEvent, frame, link, status, nothing, for_port}
 use Rattle.lldp_engine.specs.Port.Effects.{heard_at, call_of, call_at}
 use Rattle.lldp_engine.specs.Port.Past.{Happened, status_after, up_after, heard_after, calls_after, table_events_after, marks_after}
 use Rattle.lldp_engine.proofs.OnePort.Allowed.{port_table}
@@ -124,7 +124,7 @@ one_rises n = omega arith
 
 -- the port event that port i gets from an event of the agent
 abbrev own : Past → ℕ → Event → PortEvent
-own _ i event = for_port i (whose event)
+own _ i event = for_port i event
 
 abbrev calls_of : Past → ℕ → List Call
 calls_of past i = calls_after past.options (past_of past i)

@@ -1,12 +1,12 @@
 -- A command is read only from the words of its own form.
 use Rattle.std.proofs.Common.{◌≡◌, ℕ, Bool, true, false, ◌⊎◌, inl, inr, List, [], ◌∷◌, Option, Some, None, Result, Ok, Err, refl, ap, ◌∙◌, subst}
-use Rattle.std.specs.Prelude.{if◌then◌else◌, codes}
+use Rattle.std.specs.Prelude.{if◌then◌else◌, codes, ok_or}
 use Rattle.std.specs.Bool.{Decides}
 use Rattle.std.specs.Str.{bytes_eq}
 use Rattle.std.proofs.lemmas.Slice.Eq.{bytes_eq-Decides}
 use Rattle.lldp_text.specs.declared.fault.CommandFault.{CommandFault}
 use Rattle.lldp_text.specs.declared.fault.CommandFault.TheVariants.{Unknown, NoSuchPort, Text, Extra, Quote, InUse}
-use Rattle.lldp_text.specs.Answer.{or_fault, on_ok, ◌>>=◌}
+use Rattle.lldp_text.specs.Answer.{on_ok, ◌>>=◌}
 use Rattle.lldp_text.specs.Text.{is_text}
 use Rattle.lldp_text.specs.Number.{number_of}
 use Rattle.lldp_engine.specs.declared.command.Show.TheVariants.{Neighbors, Statistics, Chassis, Configuration}
@@ -92,7 +92,7 @@ module _ (names : List (List ℕ)) (command : Command) where
   word_more expected next left w ws true d e m = (ws, ap (λ (x : List ℕ). x ∷ ws) (d.0 refl), same_form next left ws e m)
   word_more expected next left w ws false d e m = cc
 
-  port_more : (next : ℕ → Form) (left : Form) (w : List ℕ) (ws : List (List ℕ)) (o : Option ℕ) → place_of names w ≡ o → on_ok next (or_fault o NoSuchPort) ≡ Ok left → Matches left ws → Matches (port next) (w ∷ ws)
+  port_more : (next : ℕ → Form) (left : Form) (w : List ℕ) (ws : List (List ℕ)) (o : Option ℕ) → place_of names w ≡ o → on_ok next (ok_or o NoSuchPort) ≡ Ok left → Matches left ws → Matches (port next) (w ∷ ws)
   port_more next left w ws (Some p) d e m = (w, ws, p, refl, d, same_form (next p) left ws e m)
   port_more next left w ws None d e m = cc
 
@@ -105,7 +105,7 @@ module _ (names : List (List ℕ)) (command : Command) where
   text_more next left w ws true d e m = (w, ws, refl, d, same_form (next w) left ws e m)
   text_more next left w ws false d e m = cc
 
-  status_more : (next : Status → Form) (left : Form) (w : List ℕ) (ws : List (List ℕ)) (o : Option Status) → status_of w ≡ o → on_ok next (or_fault o Unknown) ≡ Ok left → Matches left ws → Matches (status next) (w ∷ ws)
+  status_more : (next : Status → Form) (left : Form) (w : List ℕ) (ws : List (List ℕ)) (o : Option Status) → status_of w ≡ o → on_ok next (ok_or o Unknown) ≡ Ok left → Matches left ws → Matches (status next) (w ∷ ws)
   status_more next left w ws (Some s) d e m = (w, ws, s, refl, d, same_form (next s) left ws e m)
   status_more next left w ws None d e m = cc
 
@@ -191,8 +191,8 @@ module _ (agent : AgentState) where
   its_words_say_it (set (limit n)) words (w, is, e) = ap (said_by agent) e ∙ made_said names (number_of w 1 agent.configuration.capacity) (λ n. set (limit n)) n is
   its_words_say_it (set (set_status p given)) words (name, at, e) =
       ap (said_by agent) e
-      ∙ ap (λ place. read_forms names (one_left (on_ok status_form (or_fault place NoSuchPort))) (codes "lldp" ∷ codes "status" ∷ word_of given ∷ [])) at
-      ∙ made_said names (or_fault (status_of (word_of given)) Unknown) (λ given. set (set_status p given)) given (ap (λ o. or_fault o Unknown) (own_word_read given))
+      ∙ ap (λ place. read_forms names (one_left (on_ok status_form (ok_or place NoSuchPort))) (codes "lldp" ∷ codes "status" ∷ word_of given ∷ [])) at
+      ∙ made_said names (ok_or (status_of (word_of given)) Unknown) (λ given. set (set_status p given)) given (ap (λ o. ok_or o Unknown) (own_word_read given))
   its_words_say_it command words e = ap (said_by agent) e
 
 -- ## Limits that are in use
@@ -223,7 +223,7 @@ not_in_use agent command h = refl
 pub words_are_said : (agent : AgentState) (words : List (List ℕ)) (command : Command) → AreWordsOf agent command words × IsNotInUse agent command → command_said agent words ≡ Ok command
 words_are_said agent words command h = ap (unless_in_use agent.ports) (its_words_say_it agent command words h.0) ∙ not_in_use agent command h.1
 
-given_by : (agent : AgentState) (line : List ℕ) (command : Command) (split : Option (List (List ℕ))) → words_of line ≡ split → (or_fault split Quote >>= command_said agent) ≡ Ok command → IsLineOf agent command line
+given_by : (agent : AgentState) (line : List ℕ) (command : Command) (split : Option (List (List ℕ))) → words_of line ≡ split → (ok_or split Quote >>= command_said agent) ≡ Ok command → IsLineOf agent command line
 given_by agent line command None e h = cc
 given_by agent line command (Some words) e h = let of_words = only_said agent words command h in (words, e, of_words.0, of_words.1)
 
@@ -232,4 +232,4 @@ only_given agent line command h = given_by agent line command (words_of line) re
 
 pub line_gives : (agent : AgentState) (line : List ℕ) (command : Command) → IsLineOf agent command line → command_given agent line ≡ Ok command
 line_gives agent line command (words, e, are, free) =
-    ap (λ (split : Option (List (List ℕ))). or_fault split Quote >>= command_said agent) e ∙ words_are_said agent words command (are, free)
+    ap (λ (split : Option (List (List ℕ))). ok_or split Quote >>= command_said agent) e ∙ words_are_said agent words command (are, free)

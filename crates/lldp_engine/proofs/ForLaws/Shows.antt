@@ -4,7 +4,7 @@ use Rattle.std.specs.Prelude.{codes, decimal}
 use Rattle.std.specs.List.{flat_map, enumerate_from}
 use Rattle.std.specs.Borrow.{MutBor}
 use Rattle.std.proofs.lemmas.List.{take-append-drop, append-nil, length-append}
-use Rattle.lldp_text.specs.Text.{ended}
+use Rattle.lldp_text.specs.Text.{ended, escaped}
 use Rattle.lldp_engine.specs.Takes.{Takes}
 use Rattle.lldp_engine.specs.LineRoom.{TakesWritten, TakesAny}
 use Rattle.lldp_pdu.specs.Tlv.{TlvUnit}
@@ -15,14 +15,22 @@ use Rattle.lldp_engine.specs.declared.command.Show.{Show}
 use Rattle.lldp_engine.specs.declared.command.Show.TheVariants.{Neighbors, Statistics, Chassis, Configuration}
 use Rattle.lldp_engine.specs.declared.port.status.Status.{Status}
 use Rattle.lldp_engine.specs.declared.port.status.Status.TheVariants.{RxAndTx}
+use Rattle.lldp_engine.specs.Configuration.{Configuration as Configured}
 use Rattle.lldp_engine.specs.AgentState.{AgentState, PortState}
 use Rattle.lldp_engine.specs.ChassisLines.{management_lines}
 use Rattle.lldp_engine.specs.ConfigurationLines.{status_text, status_line}
 use Rattle.lldp_engine.specs.Keys.{neighbor_key}
-use Rattle.lldp_engine.specs.NeighborLines.{kept_line, neighbor_lines, numbered_lines, port_lines}
+use Rattle.lldp_engine.specs.NeighborLines.{neighbor_lines, numbered_lines, port_lines}
 use Rattle.lldp_engine.specs.Lines.{lines_of}
 use Rattle.lldp_engine.specs.Laws.OnlyForms.{word_of}
-use Rattle.lldp_engine.specs.Laws.Shows.{line_of, lines_of_counts, first_lines, lines_of_neighbor, lines_of_port, lines_of_management, line_of_status, whole_of, Adds}
+use Rattle.lldp_engine.specs.Laws.Shows.{line_of, lines_of_counts, first_lines, lines_of_neighbor, lines_of_port, lines_of_management, line_of_status, whole_of, Adds, role_text, lines_of_chassis}
+use Rattle.lldp_engine.specs.Code.ShownValue.{kept_line}
+use Rattle.lldp_engine.specs.declared.agent.options.Role.{Role}
+use Rattle.lldp_engine.specs.declared.agent.options.Role.TheVariants.{Station, Bridge, Router}
+use Rattle.lldp_text.specs.Capabilities.{capabilities_text}
+use Rattle.lldp_text.specs.Addresses.{mac_text}
+use Rattle.lldp_pdu.specs.Capabilities.{caps_fields}
+use Rattle.lldp_engine.specs.Frames.{capabilities_of}
 
 -- ## Lines about the agent
 
@@ -69,10 +77,25 @@ ports_alike : (ports : List PortState) → flat_map port_lines ports ≡ flat_ma
 ports_alike [] = refl
 ports_alike (port ∷ ports) = both_alike _ _ _ _ (ap (λ lines. lines_of_counts port ++ lines) (numbered_alike port.name 1 port.table.neighbors)) (ports_alike ports)
 
+-- a role's only capability is shown as its text
+pub shown_as_sent : (role : Role) → role_text role ≡ capabilities_text (caps_fields (capabilities_of role))
+shown_as_sent Station = refl
+shown_as_sent Bridge = refl
+shown_as_sent Router = refl
+
+chassis_alike : (c : Configured) (text : List ℕ) → text ≡ role_text c.role
+    → (codes "local-chassis.mac=" ++ mac_text c.mac)
+    ∷ (codes "local-chassis.name=" ++ escaped c.hostname)
+    ∷ (codes "local-chassis.descr=" ++ escaped c.description)
+    ∷ (codes "local-chassis.caps=" ++ text)
+    ∷ management_lines c.management
+    ≡ lines_of_chassis c
+chassis_alike c text e = rw (e, management_alike c.management) refl
+
 pub whole : (show : Show) (agent : AgentState) → lines_of show agent ≡ whole_of show agent
 whole Neighbors agent = ports_alike agent.ports
 whole Statistics agent = refl
-whole Chassis agent = rw (management_alike agent.configuration.management) refl
+whole Chassis agent = chassis_alike agent.configuration _ (sym (shown_as_sent agent.configuration.role))
 whole Configuration agent = rw (statuses_alike agent.ports) refl
 
 -- ## Sinks

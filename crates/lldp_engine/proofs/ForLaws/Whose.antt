@@ -19,12 +19,13 @@ use Rattle.lldp_engine.specs.Past.{Past, with_event, configuration_after, happen
 use Rattle.lldp_engine.specs.Laws.PortAt.{neighbors_at, LeavesPort, LeavesTables}
 use Rattle.lldp_engine.specs.Laws.Neighbors.{one_tick_older}
 use Rattle.lldp_engine.specs.Port.Event as own
-use Rattle.lldp_engine.specs.Port.Event.{PortEvent, one_port, whose, for_port}
+use Rattle.lldp_engine.specs.Port.Event.{PortEvent, for_port}
 use Rattle.lldp_engine.specs.Port.Effects.{call_of, call_at}
 use Rattle.lldp_engine.specs.Port.Past.{Happened, status_after, up_after, calls_after, port_after}
 use Rattle.lldp_engine.proofs.AllPorts.EachPort.{own_or_nothing}
 use Rattle.lldp_engine.proofs.ForLaws.PortAt.{port_at_same, table_same, of_table, of_table_after, IsNothing, nothing_sent, port_same}
 use Rattle.lldp_engine.proofs.ForLaws.Marks.{quiet_is_silent}
+use Rattle.lldp_engine.specs.Code.Whose.{one_port, of_port}
 
 -- ## An event that does not affect a port leaves it unchanged
 
@@ -36,7 +37,7 @@ nothing_leaves past event i r n = record {
 
 module _ (o : Options) (past : List Happened) (r : InRange o) where
   -- An event of one port does not affect another port.
-  pub of_another : (event : PortEvent) (port i n : ℕ) → i ≢ port → IsNothing o past (record { event = for_port i (one_port port event); interval = n }) r
+  pub of_another : (event : PortEvent) (port i n : ℕ) → i ≢ port → IsNothing o past (record { event = of_port i (one_port port event); interval = n }) r
   of_another event port i n other = let no : (port == i) ≡ false = grind (arith, nat_tests) in rw no (record { status = refl; heard = refl; call = refl; cause = refl })
 
 -- ## A tick concerns each port
@@ -56,7 +57,7 @@ tick_ages past i = of_table_after (λ table. table.neighbors) (λ table. table.n
 
 -- ## Links and settings
 
-link_leaves_one : (past : Past) (port i : ℕ) (up : Bool) → call_at (for_port i (one_port port (own.link up))) (status_after past.options (past_of past i)) (up_after (past_of past i)) ≡ None
+link_leaves_one : (past : Past) (port i : ℕ) (up : Bool) → call_at (of_port i (one_port port (own.link up))) (status_after past.options (past_of past i)) (up_after (past_of past i)) ≡ None
 link_leaves_one past port i up = own_or_nothing (λ (e : PortEvent). call_at e (status_after past.options (past_of past i)) (up_after (past_of past i)) ≡ None) (port == i) (own.link up) refl refl
 
 pub link_leaves_tables : (past : Past) (port : ℕ) (up : Bool) → LeavesTables past (link port up)
@@ -101,7 +102,7 @@ purge_sets_none true before = refl
 purge_sets_none false before = refl
 
 -- The limit of a table and the configured limit change at the same events.
-limits_move : (i : ℕ) (event : Event) (given : Status) (up : Bool) (c : Configuration) → limit_by (call_at (for_port i (whose event)) given up) c.limit ≡ (configured event c).limit
+limits_move : (i : ℕ) (event : Event) (given : Status) (up : Bool) (c : Configuration) → limit_by (call_at (for_port i event) given up) c.limit ≡ (configured event c).limit
 limits_move i tick given up c = refl
 limits_move i (frame port octets) given up c = own_or_nothing (λ (e : PortEvent). limit_by (call_at e given up) c.limit ≡ c.limit) (port == i) (own.frame octets) (heard_sets_none (heard_by given up octets) c.limit) refl
 limits_move i (link port now) given up c = own_or_nothing (λ (e : PortEvent). limit_by (call_at e given up) c.limit ≡ c.limit) (port == i) (own.link now) refl refl
@@ -113,7 +114,7 @@ unfolding events_of
 limit_is_configured o i [] = refl
 limit_is_configured o i (event ∷ events) =
     let past = port_past i events in
-    let call = call_at (for_port i (whose event)) (status_after o past) (up_after past) in
+    let call = call_at (for_port i event) (status_after o past) (up_after past) in
     limit-more o.max_neighbors call (calls_after o past)
     ∙ ap (limit_by call) (limit_is_configured o i events)
     ∙ limits_move i event (status_after o past) (up_after past) (configuration_after o events)

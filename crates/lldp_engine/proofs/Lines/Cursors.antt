@@ -8,10 +8,11 @@ use Rattle.lldp_pdu.specs.Kept.{kept_of}
 use Rattle.lldp_table.specs.Events.{Neighbor}
 use Rattle.lldp_engine.specs.declared.show.cursor.Cursor.{Cursor}
 use Rattle.lldp_engine.specs.AgentState.{PortState}
-use Rattle.lldp_engine.specs.NeighborLines.{kept_line, neighbor_lines, numbered_lines, count_lines, neighbors_lines}
+use Rattle.lldp_engine.specs.NeighborLines.{neighbor_lines, numbered_lines, count_lines, neighbors_lines}
 use Rattle.lldp_engine.specs.Keys.{neighbor_key}
 use Rattle.lldp_engine.specs.Code.Cursor.{IsAt, IsBehind}
 use Rattle.lldp_engine.proofs.Lines.Taken.{drop_at}
+use Rattle.lldp_engine.specs.Code.ShownValue.{kept_line}
 
 -- the port of a cursor, as it is read from the ports
 pub port_is : (ports : List PortState) (i : ℕ) (port : PortState) → i < length ports → port ≡ get_or ports i port → slice_get ports i ≡ Some port

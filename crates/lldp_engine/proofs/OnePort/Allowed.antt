@@ -14,7 +14,7 @@ use Rattle.lldp_engine.specs.Event.{Event}
 use Rattle.lldp_engine.specs.Configuration.{Configuration, configured}
 use Rattle.lldp_engine.specs.AgentState.{Allows, fits, AcceptsLimit}
 use Rattle.lldp_engine.specs.Past.{configuration_after, port_past, ports_after, agent_of, AreAllowed}
-use Rattle.lldp_engine.specs.Port.Event.{PortEvent, frame, link, status, whose, for_port}
+use Rattle.lldp_engine.specs.Port.Event.{PortEvent, frame, link, status, for_port}
 use Rattle.lldp_engine.specs.Port.Effects.{call_at}
 use Rattle.lldp_engine.specs.Port.Past.{Happened, status_after, up_after, calls_after, port_after}
 use Rattle.lldp_engine.specs.Code.Taking.{FitsLimit}
@@ -64,7 +64,7 @@ limit_fits o i events n lt a = record {
 
 -- A limit that the agent allows is allowed for the table of each port.
 fits_limit : (o : Options) (i : ℕ) (events : List Event) (event : Event) → i < length o.names → Allows (agent_of (record { options = o; events = events })) event
-    → FitsLimit (for_port i (whose event)) (port_table o (port_past i events))
+    → FitsLimit (for_port i event) (port_table o (port_past i events))
 fits_limit o i events (agent.frame port octets) lt a = own_or_nothing (λ e. FitsLimit e (port_table o (port_past i events))) (port == i) (frame octets) tt tt
 fits_limit o i events (agent.link port up) lt a = own_or_nothing (λ e. FitsLimit e (port_table o (port_past i events))) (port == i) (link up) tt tt
 fits_limit o i events (agent.set (agent.status port given)) lt a = own_or_nothing (λ e. FitsLimit e (port_table o (port_past i events))) (port == i) (status given) tt tt

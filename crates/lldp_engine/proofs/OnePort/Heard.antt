@@ -19,11 +19,12 @@ use Rattle.lldp_engine.specs.Status.{receives}
 use Rattle.lldp_engine.specs.Event as agent
 use Rattle.lldp_engine.specs.Event.{Event}
 use Rattle.lldp_engine.specs.Heard.{refused, leaves, tells, heard_of}
-use Rattle.lldp_engine.specs.Port.Event.{PortEvent, frame, link, status, limit, whose, for_port}
+use Rattle.lldp_engine.specs.Port.Event.{PortEvent, frame, link, status, limit, for_port}
 use Rattle.lldp_engine.specs.Port.Effects.{call_of, call_at}
 use Rattle.lldp_engine.specs.Code.Taking.{FitsLimit}
 use Rattle.lldp_table.specs.Events.{purge}
 use Rattle.lldp_engine.proofs.AllPorts.EachPort.{own_or_nothing}
+use Rattle.lldp_engine.specs.Code.Whose.{whose, of_port}
 
 -- The LLDPDU of a frame has at most 1,500 octets.
 short_lldpdu : (octets : List ℕ) → is_lldp_frame octets ≡ true → length (drop 14 octets) ≤ 1500
@@ -67,11 +68,27 @@ event_told table (status next) given up h f = purge_told table (receives given &
 event_told table event given up h f = tt
 
 -- If the octets of an agent's event are below 256, so are those of the event for port i.
-pub octets_for : (i : ℕ) (event : Event) → agent.HasOctets event → HasOctets (for_port i (whose event))
+pub octets_for : (i : ℕ) (event : Event) → agent.HasOctets event → HasOctets (for_port i event)
 octets_for i (agent.frame port octets) h = own_or_nothing HasOctets (port == i) (frame octets) h tt
 octets_for i (agent.link port up) h = own_or_nothing HasOctets (port == i) (link up) tt tt
 octets_for i (agent.set (agent.status port given)) h = own_or_nothing HasOctets (port == i) (status given) tt tt
 octets_for i event h = tt
+
+-- The code's way to tell which ports an event concerns gives port i the same event.
+pub of_port_is : (i : ℕ) (event : Event) → of_port i (whose event) ≡ for_port i event
+of_port_is i agent.tick = refl
+of_port_is i (agent.frame port octets) = refl
+of_port_is i (agent.link port up) = refl
+of_port_is i (agent.set (agent.hostname text)) = refl
+of_port_is i (agent.set (agent.description text)) = refl
+of_port_is i (agent.set (agent.interval seconds)) = refl
+of_port_is i (agent.set (agent.hold times)) = refl
+of_port_is i (agent.set (agent.limit neighbors)) = refl
+of_port_is i (agent.set (agent.status port given)) = refl
+of_port_is i (agent.set agent.update) = refl
+
+pub octets_of_port : (i : ℕ) (event : Event) → agent.HasOctets event → HasOctets (of_port i (whose event))
+octets_of_port i event h = rw (of_port_is i event) (octets_for i event h)
 
 -- ## The kind of a heard LLDPDU, by its fault and its TTL
 

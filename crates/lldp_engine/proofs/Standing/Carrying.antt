@@ -29,7 +29,7 @@ use Rattle.lldp_engine.specs.AgentState.{PortState, AgentState, Allows}
 use Rattle.lldp_engine.specs.Past.{Past, with_event, configuration_after, interval_after, happened, port_past, ports_after, agent_of, AreAllowed, sent_from, marks_of}
 use Rattle.lldp_engine.specs.Standing.{Stands}
 use Rattle.lldp_engine.specs.Code.Step.{ports_step, marks_step, agent_after, agent_marks}
-use Rattle.lldp_engine.specs.Port.Event.{PortEvent, tick, frame, status, limit, whose}
+use Rattle.lldp_engine.specs.Port.Event.{PortEvent, tick, frame, status, limit}
 use Rattle.lldp_engine.specs.Port.Effects.{call_of, heard_at, call_at, cause_at, cause_of_answer, cause_of_heard, status_then}
 use Rattle.lldp_engine.specs.Port.Past.{Happened, status_after, up_after, calls_after, table_events_after, settings_of, caused_at, causes_after, mark_after, counters_after, port_after}
 use Rattle.lldp_engine.specs.Code.Counting.{with_heard, with_aged_out, with_event_counted, with_mark}
@@ -38,6 +38,8 @@ use Rattle.lldp_engine.proofs.OnePort.Counters.{counted_refused, counted_leaves,
 use Rattle.lldp_engine.proofs.OnePort.Allowed.{port_table, AreTaken, allowed_taken, table_stands}
 use Rattle.lldp_engine.proofs.OnePort.Rights.{links_are}
 use Rattle.std.proofs.lemmas.Grind.{common_steps}
+use Rattle.lldp_engine.specs.Code.Whose.{whose}
+use Rattle.lldp_engine.proofs.OnePort.Heard.{of_port_is}
 
 -- ## The table of a port
 
@@ -186,7 +188,7 @@ ports_carried o events event i [] l r h = refl
 ports_carried o events event i (name ∷ names) l r h =
     let one = port_carried o (port_past i events) (happened i event events) r (allowed_taken o i (event ∷ events) (omega arith) h) name in
     let others = ports_carried o events event (i + 1) names (omega arith) r h in
-    rw (one, others) refl
+    rw (of_port_is i event, one, others) refl
 
 marks_carried : (o : Options) (events : List Event) (event : Event) (i : ℕ) (names : List (List ℕ)) → i + length names ≡ length o.names → InRange o → AreAllowed o (event ∷ events)
     → marks_step (whose event) (interval_after (event ∷ events)) i (ports_after o events i names) ≡ sent_from o (event ∷ events) i names
@@ -194,7 +196,7 @@ marks_carried o events event i [] l r h = refl
 marks_carried o events event i (name ∷ names) l r h =
     let one = port_marked o (port_past i events) (happened i event events) r (allowed_taken o i (event ∷ events) (omega arith) h) name in
     let others = marks_carried o events event (i + 1) names (omega arith) r h in
-    rw (one, others) refl
+    rw (of_port_is i event, one, others) refl
 
 agent_carried : (past : Past) (event : Event) → InRange past.options → AreAllowed past.options (event ∷ past.events) → agent_after event (agent_of past) ≡ agent_of (with_event past event)
 unfolding agent_of

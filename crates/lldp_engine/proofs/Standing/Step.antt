@@ -10,10 +10,10 @@ use Rattle.lldp_engine.specs.Configuration.{Configuration, configured}
 use Rattle.lldp_engine.specs.AgentState.{AgentState, PortState, Allows}
 use Rattle.lldp_engine.specs.Past.{sending}
 use Rattle.lldp_engine.specs.Frames.{IsSent}
-use Rattle.lldp_engine.specs.Port.Event.{Whose, whose, for_port}
 use Rattle.lldp_engine.specs.Code.PortStep.{port_mark}
 use Rattle.lldp_engine.specs.Code.Step.{ports_step, marks_step, agent_after, agent_marks}
 use Rattle.lldp_engine.specs.Code.ShortText.{HasShortText}
+use Rattle.lldp_engine.specs.Code.Whose.{Whose, whose, of_port}
 
 -- A text that is allowed has at most 255 octets.
 short_text : (text : List ℕ) → is_text text ≡ true → length text ≤ 255
@@ -41,4 +41,4 @@ one_sent i m Shutdown others lt h = ((lt, tt), h)
 
 pub marks_sent : (event : Whose) (n s m : ℕ) (ports : List PortState) → s + length ports ≤ m → AllByRecursion (λ (x : ℕ × Mark). (x.0 < m) × IsSent x.1) (marks_step event n s ports)
 marks_sent event n s m [] l = tt
-marks_sent event n s m (p ∷ ps) l = one_sent s m (port_mark (for_port s event) n p) (marks_step event n (s + 1) ps) (omega arith) (marks_sent event n (s + 1) m ps (omega arith))
+marks_sent event n s m (p ∷ ps) l = one_sent s m (port_mark (of_port s event) n p) (marks_step event n (s + 1) ps) (omega arith) (marks_sent event n (s + 1) m ps (omega arith))

@@ -4,18 +4,18 @@ use Rattle.lldp_engine.specs.Event.{Event}
 use Rattle.lldp_engine.specs.Configuration.{configured}
 use Rattle.lldp_engine.specs.AgentState.{AgentState, PortState}
 use Rattle.lldp_engine.specs.Past.{Sending, sending}
-use Rattle.lldp_engine.specs.Port.Event.{Whose, whose, for_port}
 use Rattle.lldp_engine.specs.Code.PortStep.{port_mark, port_step}
+use Rattle.lldp_engine.specs.Code.Whose.{Whose, whose, of_port}
 
 -- Returns the ports after an event, numbered from i; n is the tx-interval in force after it.
 abbrev pub ports_step : Whose → ℕ → ℕ → List PortState → List PortState
 ports_step event n i [] = []
-ports_step event n i (p ∷ ps) = port_step (for_port i event) n p ∷ ports_step event n (i + 1) ps
+ports_step event n i (p ∷ ps) = port_step (of_port i event) n p ∷ ports_step event n (i + 1) ps
 
 -- Returns the ports that send at an event, numbered from i, each with what it sends.
 abbrev pub marks_step : Whose → ℕ → ℕ → List PortState → List Sending
 marks_step event n i [] = []
-marks_step event n i (p ∷ ps) = sending i (port_mark (for_port i event) n p) (marks_step event n (i + 1) ps)
+marks_step event n i (p ∷ ps) = sending i (port_mark (of_port i event) n p) (marks_step event n (i + 1) ps)
 
 -- The configuration changes first, then each port, with the new tx-interval.
 abbrev pub agent_after : Event → AgentState → AgentState

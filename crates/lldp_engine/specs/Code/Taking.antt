@@ -4,7 +4,8 @@ use Rattle.std.specs.List.{AllByRecursion}
 use Rattle.lldp_table.specs.Standing.{IsNewLimit}
 use Rattle.lldp_table.specs.Contents.{Contents}
 use Rattle.lldp_engine.specs.AgentState.{PortState}
-use Rattle.lldp_engine.specs.Port.Event.{PortEvent, limit, Whose, one_port, each_port}
+use Rattle.lldp_engine.specs.Port.Event.{PortEvent, limit}
+use Rattle.lldp_engine.specs.Code.Whose.{Whose, one_port, each_port}
 
 -- Holds if the event sets no limit, or a limit that is possible for this table.
 abbrev pub FitsLimit : PortEvent → Contents → Type 0

@@ -9,8 +9,9 @@ use Rattle.lldp_table.specs.Outcomes.{store_outcome}
 use Rattle.lldp_engine.specs.Status.{receives}
 use Rattle.lldp_engine.specs.Event.{Event}
 use Rattle.lldp_engine.specs.AgentState.{AgentState, PortState}
-use Rattle.lldp_engine.specs.Port.Event.{PortEvent, frame, Whose, one_port, each_port, whose}
+use Rattle.lldp_engine.specs.Port.Event.{PortEvent, frame}
 use Rattle.lldp_engine.specs.Told.{Told, nothing, deaf, not_lldp, refused, stored, left}
+use Rattle.lldp_engine.specs.Code.Whose.{Whose, one_port, each_port, whose}
 
 -- Returns what an LLDPDU tells, given its first fault if it has one.
 abbrev pub pdu_tells : Contents → List ℕ → Option PduFault → Told

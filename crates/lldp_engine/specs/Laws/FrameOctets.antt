@@ -3,15 +3,17 @@ use Rattle.std.specs.Prelude.{◌≡◌, ℕ, ◌+◌, ◌*◌, ◌/◌, ◌%◌
 use Rattle.lldp_engine.specs.declared.agent.options.Role.{Role}
 use Rattle.lldp_engine.specs.declared.agent.options.Role.TheVariants.{Station, Bridge, Router}
 use Rattle.lldp_engine.specs.Configuration.{Configuration}
+use Rattle.lldp_text.specs.Text.{most_text}
+use Rattle.lldp_engine.specs.Ranges.{most_name}
 
 -- As in every agent: a MAC address of 6 octets, a management address of 4, texts of at most 255
 -- octets, and a port's name of at most 15.
 pub record HasLengths (c : Configuration) (name : List ℕ) : Type 0 where
   pub mac : length c.mac ≡ 6
   pub management : IfSome c.management (λ address. length address ≡ 4)
-  pub hostname : length c.hostname ≤ 255
-  pub description : length c.description ≤ 255
-  pub short : length name ≤ 15
+  pub hostname : length c.hostname ≤ most_text
+  pub description : length c.description ≤ most_text
+  pub short : length name ≤ most_name
 
 -- A TLV with a body of at most 255 octets: twice its type, the length of the body, the body.
 abbrev pub tlv_octets : ℕ → List ℕ → List ℕ

@@ -9,16 +9,18 @@ use Rattle.lldp_engine.specs.Options.{Options, is_name_octet}
 use Rattle.lldp_engine.specs.Configuration.{Configuration}
 use Rattle.lldp_engine.specs.AgentState.{AgentState, PortState, names_of}
 use Rattle.lldp_engine.specs.FixedNumbers.{number_of_refusal}
+use Rattle.lldp_text.specs.Text.{most_text}
+use Rattle.lldp_engine.specs.Ranges.{first_interval, most_ports, most_name}
 
 -- A port's name: 1 to 15 octets, each of them allowed in names.
 pub record IsName (name : List ℕ) : Type 0 where
   pub some : 1 ≤ length name
-  pub short : length name ≤ 15
+  pub short : length name ≤ most_name
   pub octets : AllPass is_name_octet name
 
 -- A text: at most 255 octets, each from the space (32) to the tilde (126).
 pub record IsText (text : List ℕ) : Type 0 where
-  pub short : length text ≤ 255
+  pub short : length text ≤ most_text
   pub octets : All (λ octet. (32 ≤ octet) × (octet ≤ 126)) text
 
 -- The options pass the check for this fault: at least one port; at most 64; each has a valid name;
@@ -26,7 +28,7 @@ pub record IsText (text : List ℕ) : Type 0 where
 abbrev pub Passes : Options → OpenFault → Type 0
 Passes o Memory = Unit {0}
 Passes o NoPorts = 1 ≤ length o.names
-Passes o TooManyPorts = length o.names ≤ 64
+Passes o TooManyPorts = length o.names ≤ most_ports
 Passes o PortName = All IsName o.names
 Passes o SamePort = AllPairs (λ name other. name ≢ other) o.names
 Passes o Text = IsText o.hostname
@@ -52,7 +54,7 @@ pub record IsConfiguredBy (o : CodeOptions) (c : Configuration) : Type 0 where
   pub capacity : c.capacity ≡ o.max_neighbors
   pub hostname : c.hostname ≡ o.hostname.now
   pub description : c.description ≡ codes "lldpa"
-  pub interval : c.interval ≡ 30
+  pub interval : c.interval ≡ first_interval
   pub hold : c.hold ≡ 4
   pub limit : c.limit ≡ o.max_neighbors
 

@@ -11,8 +11,15 @@ use Rattle.lldp_engine.specs.declared.command.Show.{Show}
 use Rattle.lldp_engine.specs.declared.command.Show.TheVariants.{Neighbors, Statistics, Chassis, Configuration}
 use Rattle.lldp_engine.specs.Configuration.{Configuration as Configured, sent_ttl}
 use Rattle.lldp_engine.specs.AgentState.{AgentState, PortState}
-use Rattle.lldp_engine.specs.ChassisLines.{role_text}
 use Rattle.lldp_engine.specs.Laws.OnlyForms.{word_of}
+use Rattle.lldp_engine.specs.declared.agent.options.Role.{Role}
+use Rattle.lldp_engine.specs.declared.agent.options.Role.TheVariants.{Station, Bridge, Router}
+
+-- Returns the text of a role's only capability, which is shown as enabled.
+abbrev pub role_text : Role → List ℕ
+role_text Station = codes "Station:on"
+role_text Bridge = codes "Bridge:on"
+role_text Router = codes "Router:on"
 
 abbrev pub line_of : List ℕ → List ℕ → List ℕ
 line_of name rest = codes "lldp." ++ (name ++ codes ".") ++ rest

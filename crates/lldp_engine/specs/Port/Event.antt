@@ -1,4 +1,4 @@
--- The events of one port, and which ports an event of the agent concerns.
+-- The events of one port, and what an event of the agent means to it.
 use Rattle.std.specs.Prelude.{ℕ, ◌==◌, Bool, if◌then◌else◌, List}
 use Rattle.lldp_engine.specs.declared.port.status.Status.{Status}
 use Rattle.lldp_engine.specs.Event as agent
@@ -15,25 +15,16 @@ pub data PortEvent : Type 0 where
   change : PortEvent
   nothing : PortEvent
 
--- The ports that an event concerns (one by its number, or each), and the port event for them.
-pub data Whose : Type 0 where
-  one_port : (port : ℕ) (event : PortEvent) → Whose
-  each_port : (event : PortEvent) → Whose
+-- Returns what a setting means to port i. Every command except a status is a local change for each
+-- port, even if the value is the same.
+abbrev pub set_for_port : ℕ → agent.Setting → PortEvent
+set_for_port i (agent.status port given) = if port == i then status given else nothing
+set_for_port i (agent.limit neighbors) = limit neighbors
+set_for_port i setting = change
 
--- Every command except a status is a local change for each port, even if the value is the same.
-abbrev pub whose_setting : agent.Setting → Whose
-whose_setting (agent.status port given) = one_port port (status given)
-whose_setting (agent.limit neighbors) = each_port (limit neighbors)
-whose_setting setting = each_port change
-
--- A tick concerns each port; frames and link events concern one port.
-abbrev pub whose : agent.Event → Whose
-whose agent.tick = each_port tick
-whose (agent.frame port octets) = one_port port (frame octets)
-whose (agent.link port up) = one_port port (link up)
-whose (agent.set setting) = whose_setting setting
-
--- Returns the port event for port i, which is `nothing` if the event is for another port.
-abbrev pub for_port : ℕ → Whose → PortEvent
-for_port i (one_port port event) = if port == i then event else nothing
-for_port i (each_port event) = event
+-- Returns what an event means to port i. A tick comes to each port, a frame or a link event to one.
+abbrev pub for_port : ℕ → agent.Event → PortEvent
+for_port i agent.tick = tick
+for_port i (agent.frame port octets) = if port == i then frame octets else nothing
+for_port i (agent.link port up) = if port == i then link up else nothing
+for_port i (agent.set setting) = set_for_port i setting

@@ -4,10 +4,12 @@ ghost use Rattle.lldp_engine.specs.Options.{options_of};
 ghost use Rattle.lldp_engine.specs.Event.{event_of};
 ghost use Rattle.lldp_engine.specs.Configuration.{configuration_at_opening, configured, sent_ttl};
 ghost use Rattle.lldp_engine.specs.Code.ShortText.{HasShortText};
+ghost use Rattle.lldp_text.specs.Text.{most_text};
 
 use crate::agent::event::{Event, Setting};
 use crate::agent::options::{Options, Role};
 use arrayvec::ArrayVec;
+use lldp_text::MOST_TEXT;
 use std::marker::Model;
 
 /// The tx-interval at opening, in seconds.
@@ -17,7 +19,7 @@ const INTERVAL: u16 = 30;
 const HOLD: u8 = 4;
 
 /// A text of at most 255 octets.
-pub type Text = ArrayVec<u8, 255>;
+pub type Text = ArrayVec<u8, MOST_TEXT>;
 
 /// The configuration of an agent. Commands change only the fields after `capacity`.
 #[derive(Drop)]
@@ -60,7 +62,7 @@ impl Model for Configuration {
 }
 
 fn text_of(octets: &[u8]) -> Text
-    requires { length octets.now ≤ 255 }
+    requires { length octets.now ≤ most_text }
     ensures { result.items ≡ octets.now }
 {
     let mut text = ArrayVec::new();
@@ -71,7 +73,7 @@ fn text_of(octets: &[u8]) -> Text
 impl Configuration {
     /// Returns the configuration at opening. The hostname must have at most 255 octets.
     pub(crate) fn open(options: &Options<'_>) -> Configuration
-        requires { length options.now.hostname.now ≤ 255 }
+        requires { length options.now.hostname.now ≤ most_text }
         ensures { result ≡ configuration_at_opening (options_of options.now) }
     {
         Configuration {

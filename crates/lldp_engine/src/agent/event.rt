@@ -1,8 +1,7 @@
 //! The events of an agent.
 ghost use Rattle.std.specs.Prelude.{◌≡◌, ◌↔◌, IsTrue};
 ghost use Rattle.lldp_engine.specs.Event.{HasOctets, IsInRange, setting_of, event_of};
-ghost use Rattle.lldp_engine.specs.Port.Event.{whose_setting, whose};
-ghost use Rattle.lldp_engine.specs.Port.EventView.{whose_of};
+ghost use Rattle.lldp_engine.specs.Code.Whose.{whose_setting, whose, whose_of};
 
 use crate::port::event::{PortEvent, Whose};
 use crate::port::status::Status;

@@ -9,6 +9,7 @@ ghost use Rattle.lldp_engine.specs.Past.{Past, configuration_after};
 ghost use Rattle.lldp_engine.specs.Standing.{Stands};
 ghost use Rattle.lldp_engine.specs.Code.ShortText.{HasShortTexts};
 ghost use Rattle.lldp_engine.specs.Frames.{sent_msap, sent_tlvs, capabilities_of, management_body, draft_of, frame_of, IsSent, SaysBack};
+ghost use Rattle.lldp_engine.specs.Ranges.{most_name};
 
 use crate::agent::Agent;
 use crate::agent::configuration::Configuration;
@@ -38,7 +39,7 @@ fn chassis_id(configuration: &Configuration) -> ArrayVec<u8, 7>
 
 /// Returns the body of the Port ID TLV: subtype 5 and the name of the port.
 fn port_id(name: &[u8]) -> ArrayVec<u8, 16>
-    requires { length name.now ≤ 15 }
+    requires { length name.now ≤ most_name }
     ensures value { result.items ≡ 5 ∷ name.now }
     ensures len { length result.items ≡ length name.now + 1 }
 {
@@ -85,7 +86,7 @@ fn write_head(frame: &mut Frame, configuration: &Configuration)
 
 /// Adds the three mandatory TLVs: Chassis ID, Port ID and Time To Live.
 fn write_mandatory(frame: &mut Frame, configuration: &Configuration, name: &[u8], ttl: u16)
-    requires short { length name.now ≤ 15 }
+    requires short { length name.now ≤ most_name }
     requires room { array_vec_len frame.old ≤ 14 }
     ensures value { frame.new.items ≡ frame.old.items
         ++ spellings (all_tlvs (record {
@@ -103,7 +104,7 @@ fn write_mandatory(frame: &mut Frame, configuration: &Configuration, name: &[u8]
 
 /// Adds the optional TLVs of an ordinary frame.
 fn write_optional(frame: &mut Frame, configuration: &Configuration, name: &[u8])
-    requires short { length name.now ≤ 15 }
+    requires short { length name.now ≤ most_name }
     requires room { array_vec_len frame.old ≤ 45 }
     ensures value { frame.new.items ≡ frame.old.items
         ++ spellings (sent_tlvs configuration.now name.now) }
@@ -126,7 +127,7 @@ fn write_optional(frame: &mut Frame, configuration: &Configuration, name: &[u8])
 /// Adds the TLVs of a frame, except the End Of LLDPDU.
 fn write_tlvs(frame: &mut Frame, configuration: &Configuration, name: &[u8], mark: Mark)
     requires some { 0 < length name.now }
-    requires short { length name.now ≤ 15 }
+    requires short { length name.now ≤ most_name }
     requires room { array_vec_len frame.old ≤ 14 }
     ensures value { frame.new.items ≡ frame.old.items
         ++ spellings (all_tlvs (draft_of configuration.now name.now mark)) }
@@ -146,7 +147,7 @@ fn write_tlvs(frame: &mut Frame, configuration: &Configuration, name: &[u8], mar
 /// Writes the frame of a port, replacing what `frame` held.
 fn write_frame(frame: &mut Frame, configuration: &Configuration, name: &[u8], mark: Mark)
     requires some { 0 < length name.now }
-    requires short { length name.now ≤ 15 }
+    requires short { length name.now ≤ most_name }
     ensures octets { frame.new.items ≡ frame_of configuration.now name.now mark }
     ensures says { SaysBack (draft_of configuration.now name.now mark) frame.new.items }
 {

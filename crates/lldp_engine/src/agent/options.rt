@@ -2,6 +2,8 @@
 ghost use Rattle.std.specs.Prelude.{◌≡◌, ◌≤◌, ◌↔◌, IsTrue, IfNone, map, length};
 ghost use Rattle.std.specs.List.{list_all};
 ghost use Rattle.lldp_engine.specs.Options.{InRange, options_of, is_port_name, fault_of};
+ghost use Rattle.lldp_text.specs.Text.{most_text};
+ghost use Rattle.lldp_engine.specs.Ranges.{most_ports};
 
 use crate::agent::open_fault::OpenFault;
 use crate::agent::port_names::{all_port_names, names_repeat};
@@ -10,6 +12,9 @@ pub use lldp_transmit::{MOST_CREDIT, MOST_FAST, MOST_REINIT};
 
 /// The greatest number of neighbors per port that options may allow.
 pub const MOST_NEIGHBORS: u8 = lldp_table::MOST_NEIGHBORS as u8;
+
+/// The most ports that an agent may have.
+pub const MOST_PORTS: usize = 64;
 
 /// The role of a host: the one system capability that its frames report.
 #[derive(Clone, Copy, Debug, PartialEq, Eq)]
@@ -59,12 +64,12 @@ impl<'a> Options<'a> {
         ensures fault { result ≡ fault_of (options_of self.now) }
         ensures names { IfNone result (IsTrue (list_all is_port_name (map (λ n.
             n.now) self.now.ports.now))) }
-        ensures few { IfNone result (length self.now.ports.now ≤ 64) }
-        ensures hostname { IfNone result (length self.now.hostname.now ≤ 255) }
+        ensures few { IfNone result (length self.now.ports.now ≤ most_ports) }
+        ensures hostname { IfNone result (length self.now.hostname.now ≤ most_text) }
     {
         if self.ports.is_empty() {
             Some(OpenFault::NoPorts)
-        } else if self.ports.len() > 64 {
+        } else if self.ports.len() > MOST_PORTS {
             Some(OpenFault::TooManyPorts)
         } else if !all_port_names(self.ports) {
             Some(OpenFault::PortName)

@@ -4,6 +4,9 @@ ghost use Rattle.std.specs.List.{list_any, list_all};
 ghost use Rattle.std.specs.Str.{bytes_eq};
 ghost use Rattle.lldp_engine.specs.Options.{is_name_octet, is_port_name, has_same};
 
+/// The most octets of the name of a port.
+pub const MOST_NAME: usize = 15;
+
 fn may_stand_in_name(octet: u8) -> bool
     ensures { result ≡ is_name_octet octet }
 {
@@ -24,7 +27,7 @@ fn all_name_octets(name: &[u8]) -> bool
 fn can_name_port(name: &str) -> bool
     ensures { result ≡ is_port_name name.now }
 {
-    if name.len() == 0 || name.len() > 15 {
+    if name.len() == 0 || name.len() > MOST_NAME {
         return false;
     }
     all_name_octets(name.as_bytes())

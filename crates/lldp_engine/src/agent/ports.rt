@@ -5,15 +5,16 @@ ghost use Rattle.lldp_engine.specs.Options.{options_of, InRange, is_port_name};
 ghost use Rattle.lldp_engine.specs.AgentState.{fits};
 ghost use Rattle.lldp_engine.specs.Past.{sending};
 ghost use Rattle.lldp_engine.specs.Place.{place_from};
-ghost use Rattle.lldp_engine.specs.Port.Event.{each_port};
-ghost use Rattle.lldp_engine.specs.Port.EventView.{port_event_of, whose_of};
+ghost use Rattle.lldp_engine.specs.Port.EventView.{port_event_of};
 ghost use Rattle.lldp_engine.specs.Code.PortStep.{opened_port};
 ghost use Rattle.lldp_engine.specs.Code.Step.{ports_step, marks_step};
 ghost use Rattle.lldp_engine.specs.Code.Taking.{AllFit, CanTake};
 ghost use Rattle.lldp_engine.specs.Code.Telling.{ports_told};
 ghost use Rattle.lldp_engine.specs.Told.{told_of};
+ghost use Rattle.lldp_engine.specs.Ranges.{most_ports};
+ghost use Rattle.lldp_engine.specs.Code.Whose.{each_port, whose_of};
 
-use crate::agent::options::Options;
+use crate::agent::options::{MOST_PORTS, Options};
 use crate::agent::told::Told;
 use crate::port::Port;
 use crate::port::event::{PortEvent, Whose};
@@ -23,7 +24,7 @@ use lldp_transmit::Mark;
 use std::alloc::{AllocError, Allocator};
 
 /// The ports that send, in ascending order, each with what it sends.
-pub type Marks = ArrayVec<(u8, Mark), 64>;
+pub type Marks = ArrayVec<(u8, Mark), MOST_PORTS>;
 
 /// Opens the ports that the options name, and allocates their tables.
 pub(crate) fn open_ports<A: Allocator + Clone>(
@@ -44,7 +45,7 @@ pub(crate) fn open_ports<A: Allocator + Clone>(
 
 /// Adds a port and what it sends to the list, if it sends anything.
 fn note(marks: &mut Marks, port: u8, mark: Mark)
-    requires { length marks.old.items < 64 }
+    requires { length marks.old.items < most_ports }
     ensures noted { marks.new.items ≡ marks.old.items ++ sending port mark [] }
     ensures few { length marks.new.items ≤ length marks.old.items + 1 }
 {
@@ -61,7 +62,7 @@ pub(crate) fn take_event<'a, A: Allocator>(
     interval: u16,
     marks: &mut Marks,
 ) -> Told<'a>
-    requires few { length ports.old ≤ 64 }
+    requires few { length ports.old ≤ most_ports }
     requires can { CanTake (whose_of event.now) ports.old }
     ensures after { ports.new ≡ ports_step (whose_of event.now) interval 0 ports.old }
     ensures marks { marks.new.items ≡ marks_step (whose_of event.now) interval 0 ports.old }
@@ -89,7 +90,7 @@ fn each_takes<A: Allocator>(
     interval: u16,
     marks: &mut Marks,
 )
-    requires few { length ports.old ≤ 64 }
+    requires few { length ports.old ≤ most_ports }
     requires limits { AllFit (port_event_of event.now) ports.old }
     requires none { marks.old.items ≡ [] }
     ensures after { ports.new
@@ -118,7 +119,7 @@ pub(crate) fn all_fit<A: Allocator>(ports: &[Port<A>], most: u8) -> bool
 
 /// Returns the number of the port with this name, from 0.
 pub(crate) fn find_place<A: Allocator>(ports: &[Port<A>], name: &[u8]) -> Option<u8>
-    requires { length ports.now ≤ 64 }
+    requires { length ports.now ≤ most_ports }
     ensures { result ≡ place_from 0 (map (λ p. p.name) ports.now) name.now }
 {
     for (i, port) in ports.iter().enumerate() {

@@ -11,7 +11,7 @@ ghost use Rattle.lldp_engine.specs.Status.{receives};
 ghost use Rattle.lldp_engine.specs.Event.{event_of, frame};
 ghost use Rattle.lldp_engine.specs.Configuration.{Configuration, configured};
 ghost use Rattle.lldp_engine.specs.AgentState.{AgentState, PortState, Allows};
-ghost use Rattle.lldp_engine.specs.Port.Event.{whose, for_port};
+ghost use Rattle.lldp_engine.specs.Port.Event.{for_port};
 ghost use Rattle.lldp_engine.specs.Command.{command_of};
 ghost use Rattle.lldp_engine.specs.Given.{said_by, command_said};
 ghost use Rattle.lldp_engine.specs.Told.{told_of, Tells};
@@ -25,7 +25,7 @@ pub fn events_do_what_they_say()
     ensures set { (event : Event) (c : Configuration) →
         configured (event_of event) c ≡ set_by event c }
     ensures come { (event : Event) (i : ℕ) →
-        for_port i (whose (event_of event)) ≡ comes_to i event }
+        for_port i (event_of event) ≡ comes_to i event }
 {}
 
 /// A command that is read has the words of its form, and the agent allows it.

@@ -4,9 +4,9 @@ ghost use Rattle.lldp_pdu.specs.Capabilities.{caps_fields};
 ghost use Rattle.lldp_engine.specs.declared.agent.options.Role.{Role};
 ghost use Rattle.lldp_engine.specs.AgentState.{AgentState};
 ghost use Rattle.lldp_text.specs.Capabilities.{capabilities_text};
-ghost use Rattle.lldp_engine.specs.ChassisLines.{role_text};
 ghost use Rattle.lldp_engine.specs.Frames.{capabilities_of};
 ghost use Rattle.lldp_engine.specs.FixedNumbers.{AreConstants, MaySet};
+ghost use Rattle.lldp_engine.specs.Laws.Shows.{role_text};
 
 /// The greatest values of options and commands, the most lines of a show, the sizes of a line and
 /// of a writer, and the numbers of the faults at opening are those of `AreConstants`.

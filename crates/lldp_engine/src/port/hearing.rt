@@ -9,6 +9,7 @@ ghost use Rattle.lldp_engine.specs.Told.{told_of, stored};
 ghost use Rattle.lldp_engine.specs.Code.Counting.{with_tlvs, with_answer};
 ghost use Rattle.lldp_engine.specs.Code.PortStep.{hears_if};
 ghost use Rattle.lldp_engine.specs.Code.Telling.{pdu_tells, frame_tells};
+ghost use Rattle.lldp_pdu.specs.Range.{most_octets};
 
 use super::Port;
 use crate::agent::told::Told;
@@ -48,7 +49,7 @@ impl<A: Allocator> Port<A> {
     /// Handles the LLDPDU of an LLDP frame, and writes what it tells. Returns what it means to the
     /// port's transmit machine.
     fn hear<'a>(&mut self, pdu: &'a [u8], told: &mut Told<'a>) -> Cause
-        requires { length pdu.now ≤ 1500 }
+        requires { length pdu.now ≤ most_octets }
         ensures after { self.new ≡ hears_if self.old (Some (heard_of pdu.now)) }
         ensures cause { result
             ≡ cause_of_heard (learn_answer self.old.table) (Some (heard_of pdu.now)) }
@@ -73,7 +74,7 @@ impl<A: Allocator> Port<A> {
     /// Stores an LLDPDU that has no fault and a TTL above 0, if there is room, and counts it. Writes
     /// what it tells.
     fn learn<'a>(&mut self, info: &Info<'a>, told: &mut Told<'a>) -> Cause
-        requires { length info.now.octets ≤ 1500 }
+        requires { length info.now.octets ≤ most_octets }
         ensures after { self.new ≡ record {
           name = self.old.name;
           status = self.old.status;

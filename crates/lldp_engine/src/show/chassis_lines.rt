@@ -1,7 +1,10 @@
 //! The lines of `show chassis`.
 ghost use Rattle.std.specs.Prelude.{◌≡◌, ◌≤◌, length};
-ghost use Rattle.lldp_engine.specs.ChassisLines.{role_text, management_lines, chassis_lines};
+ghost use Rattle.lldp_engine.specs.ChassisLines.{management_lines, chassis_lines};
 ghost use Rattle.lldp_engine.specs.Takes.{Takes};
+ghost use Rattle.lldp_pdu.specs.Capabilities.{caps_fields};
+ghost use Rattle.lldp_text.specs.Capabilities.{capabilities_text};
+ghost use Rattle.lldp_engine.specs.Frames.{capabilities_of};
 
 use crate::agent::configuration::Configuration;
 use crate::agent::options::Role;
@@ -10,7 +13,7 @@ use crate::show::line::{LineSink, Value, put_line};
 const FRONT: &[u8] = b"local-chassis.";
 
 fn text_of_role(role: Role) -> &'static [u8]
-    ensures value { result.now ≡ role_text role }
+    ensures value { result.now ≡ capabilities_text (caps_fields (capabilities_of role)) }
     ensures short { length result.now ≤ 10 }
 {
     match role {

@@ -4,6 +4,7 @@ ghost use Rattle.std.specs.List.{AllByRecursion};
 ghost use Rattle.lldp_engine.specs.Code.ShownValue.{plain_number};
 ghost use Rattle.lldp_engine.specs.ConfigurationLines.{status_text, status_line, numbers_shown, configuration_lines};
 ghost use Rattle.lldp_engine.specs.Takes.{Takes};
+ghost use Rattle.lldp_engine.specs.Ranges.{most_ports};
 
 use crate::agent::configuration::Configuration;
 use crate::port::Port;
@@ -48,7 +49,7 @@ fn put_statuses<A: Allocator, S: LineSink>(sink: &mut S, ports: &[Port<A>])
 
 /// Returns the numbers of the configuration, in the order in which they are shown.
 fn in_order<A: Allocator>(c: &Configuration, ports: &[Port<A>]) -> [Number; 8]
-    requires { length ports.now ≤ 64 }
+    requires { length ports.now ≤ most_ports }
     ensures shown { map plain_number result
         ≡ numbers_shown (record { configuration = c.now; ports = ports.now }) }
     ensures short { AllByRecursion (λ number. length number.0.now ≤ 32) result }
@@ -71,7 +72,7 @@ pub(crate) fn put_configuration<A: Allocator, S: LineSink>(
     c: &Configuration,
     ports: &[Port<A>],
 )
-    requires { length ports.now ≤ 64 }
+    requires { length ports.now ≤ most_ports }
     ensures { Takes S.takes sink.old sink.new
         (configuration_lines (record { configuration = c.now; ports = ports.now })) }
 {

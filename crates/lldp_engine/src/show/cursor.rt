@@ -2,6 +2,7 @@
 ghost use Rattle.std.specs.Prelude.{◌≡◌, ◌+◌, ◌≤◌, false, true, length};
 ghost use Rattle.lldp_pdu.specs.Kept.{kept_of};
 ghost use Rattle.lldp_engine.specs.Code.Cursor.{IsCursor, IsBehind};
+ghost use Rattle.lldp_engine.specs.Ranges.{most_ports};
 
 use crate::port::Port;
 use lldp_pdu::Kept;
@@ -90,7 +91,7 @@ fn pass_neighbors<A: Allocator>(ports: &[Port<A>], cursor: &mut Cursor, from: u3
 /// Moves the cursor from the end of a port to the next port's first neighbor, if that is not behind
 /// line `from`. Returns whether it was moved.
 fn pass_port<A: Allocator>(ports: &[Port<A>], cursor: &mut Cursor, from: u32) -> bool
-    requires few { length ports.now ≤ 64 }
+    requires few { length ports.now ≤ most_ports }
     requires cursor { IsBehind ports.now cursor.old }
     requires before { cursor.old.before ≤ from }
     ensures cursor { IsBehind ports.now cursor.new }
@@ -113,7 +114,7 @@ fn pass_port<A: Allocator>(ports: &[Port<A>], cursor: &mut Cursor, from: u32) ->
 
 /// Moves the cursor to the last neighbor that is not behind line `from`, or to the first line.
 pub(crate) fn seek<A: Allocator>(ports: &[Port<A>], cursor: &mut Cursor, from: u32)
-    requires few { length ports.now ≤ 64 }
+    requires few { length ports.now ≤ most_ports }
     requires cursor { IsCursor ports.now cursor.old }
     ensures cursor { IsCursor ports.now cursor.new }
     ensures before { cursor.new.before ≤ from }

@@ -7,6 +7,7 @@ ghost use Rattle.lldp_engine.specs.Code.ShownValue.{value_text, FitsLine, plain_
 ghost use Rattle.lldp_text.specs.declared.writing.TheConstants.{ROOM, VALUE_ROOM};
 ghost use Rattle.lldp_engine.specs.Keys.{front_of, port_key, neighbor_key, number_lines};
 ghost use Rattle.lldp_engine.specs.Takes.{Takes};
+ghost use Rattle.lldp_engine.specs.Ranges.{most_name};
 
 use arrayvec::ArrayVec;
 use lldp_pdu::Tlv;
@@ -87,7 +88,7 @@ fn extend(front: &mut Front, octets: &[u8])
 /// Returns a word, the name of a port and a `.`, joined.
 pub(crate) fn front(word: &[u8], name: &[u8]) -> Front
     requires word { length word.now ≤ 14 }
-    requires name { length name.now ≤ 15 }
+    requires name { length name.now ≤ most_name }
     ensures value { result.items ≡ front_of word.now name.now }
     ensures len { length result.items ≤ length word.now + 16 }
 {
@@ -100,7 +101,7 @@ pub(crate) fn front(word: &[u8], name: &[u8]) -> Front
 
 /// Returns `lldp.PORT.`
 pub(crate) fn port_front(name: &[u8]) -> Front
-    requires { length name.now ≤ 15 }
+    requires { length name.now ≤ most_name }
     ensures value { result.items ≡ port_key name.now }
     ensures len { length result.items ≤ 21 }
 {
@@ -109,7 +110,7 @@ pub(crate) fn port_front(name: &[u8]) -> Front
 
 /// Returns `lldp.PORT.N.`
 pub(crate) fn neighbor_front(name: &[u8], number: u8) -> Front
-    requires { length name.now ≤ 15 }
+    requires { length name.now ≤ most_name }
     ensures { result.items ≡ neighbor_key name.now number }
 {
     let mut front = port_front(name);

@@ -9,6 +9,7 @@ ghost use Rattle.lldp_engine.specs.Takes.{Takes};
 ghost use Rattle.lldp_engine.specs.Code.OneLineState.{line_kept};
 
 use crate::agent::Agent;
+use crate::agent::options::{MOST_NEIGHBORS, MOST_PORTS};
 use crate::command::Show;
 use crate::show::chassis_lines::put_chassis;
 use crate::show::configuration_lines::put_configuration;
@@ -24,7 +25,7 @@ use std::alloc::Allocator;
 /// The most lines that a show can have: 3 for each of 64 ports, 4 for each of the 128 neighbors of
 /// a port, and 1 for each of the 744 kept TLVs of a neighbor. The mandatory TLVs take at least 12
 /// of the 1,500 octets of a neighbor, and a kept TLV at least 2.
-pub const MOST_LINES: u32 = 64 * (3 + 128 * (4 + 744));
+pub const MOST_LINES: u32 = MOST_PORTS as u32 * (3 + MOST_NEIGHBORS as u32 * (4 + 744));
 
 impl<A: Allocator> Agent<A> {
     /// Writes exactly the lines of a show to a sink, in order: at most `MOST_LINES` (6,127,808)

@@ -2,9 +2,11 @@
 ghost use Rattle.std.specs.Prelude.{◌≡◌, ◌≤◌, ◌+◌, drop, length, map};
 ghost use Rattle.std.specs.List.{AllByRecursion};
 ghost use Rattle.lldp_pdu.specs.Kept.{IsKeptTlv};
-ghost use Rattle.lldp_engine.specs.NeighborLines.{kept_line, neighbor_lines, numbered_lines, yes_or_no, count_lines, port_lines, neighbors_lines};
+ghost use Rattle.lldp_engine.specs.NeighborLines.{neighbor_lines, numbered_lines, yes_or_no, count_lines, port_lines, neighbors_lines};
 ghost use Rattle.lldp_engine.specs.Code.Cursor.{IsBehind};
 ghost use Rattle.lldp_engine.specs.Takes.{Takes};
+ghost use Rattle.lldp_engine.specs.Ranges.{most_name};
+ghost use Rattle.lldp_engine.specs.Code.ShownValue.{kept_line};
 
 use crate::port::Port;
 use crate::show::cursor::Cursor;
@@ -33,7 +35,7 @@ fn put_kept<S: LineSink>(sink: &mut S, front: &[u8], kept: Kept<'_>)
 
 /// Writes the lines of neighbor `number`, from 1, of the port with this name.
 fn put_neighbor<S: LineSink>(sink: &mut S, name: &[u8], number: u8, neighbor: Entry<'_>)
-    requires { length name.now ≤ 15 }
+    requires { length name.now ≤ most_name }
     ensures { Takes S.takes sink.old sink.new (neighbor_lines name.now number neighbor.entry) }
 {
     let begin = neighbor_front(name, number);

@@ -9,6 +9,7 @@ use Rattle.lldp_pdu.specs.Lldpdu.{msap_of, ttl_of}
 use Rattle.lldp_pdu.specs.Kept.{is_kept, IsKeptTlv}
 use Rattle.lldp_pdu.specs.Draft.{Draft, all_tlvs, was_put}
 use Rattle.lldp_pdu.specs.Code.Seen.{Flags}
+use Rattle.lldp_pdu.specs.Range.{most_octets}
 
 -- the draft that the octets encode
 unfoldable pub draft_of : List ℕ → Draft
@@ -34,6 +35,6 @@ pub record IsDraft (d : Draft) : Type 0 where
 pub record Builds (octets : List ℕ) (met : List Bool) (lives : Bool) : Type 0 where
   pub spelled : octets ≡ spellings (all_tlvs (draft_of octets))
   pub draft : IsDraft (draft_of octets)
-  pub room : length octets + 2 ≤ 1500
+  pub room : length octets + 2 ≤ most_octets
   pub flags : Flags met (λ kind. was_put kind (draft_of octets).tlvs)
   pub lives_is : lives ≡ nat_lt 0 (draft_of octets).ttl

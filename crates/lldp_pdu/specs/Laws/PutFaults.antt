@@ -5,6 +5,7 @@ use Rattle.lldp_pdu.specs.declared.fault.BuildFault.TheVariants.{Full, Kind, Bod
 use Rattle.lldp_pdu.specs.Tlv.{TlvUnit, spellings}
 use Rattle.lldp_pdu.specs.WellFormed.{is_well_formed}
 use Rattle.lldp_pdu.specs.Draft.{Draft, all_tlvs, put_fault}
+use Rattle.lldp_pdu.specs.Range.{most_octets}
 
 -- The type is 4 to 127, the TTL is above 0, and if the type is 4 to 7, no TLV of it was put.
 pub record MayFollow (d : Draft) (u : TlvUnit) : Type 0 where
@@ -23,5 +24,5 @@ pub record HasBody (u : TlvUnit) : Type 0 where
 pub record IsRefused (d : Draft) (u : TlvUnit) : Type 0 where
   pub kind : ¬ (MayFollow d u) → put_fault d u ≡ Some Kind
   pub body : MayFollow d u → ¬ (HasBody u) → put_fault d u ≡ Some Body
-  pub full : MayFollow d u → HasBody u → 1500 < length (spellings (all_tlvs d)) + length u.body + 4 →
+  pub full : MayFollow d u → HasBody u → most_octets < length (spellings (all_tlvs d)) + length u.body + 4 →
       put_fault d u ≡ Some Full

@@ -73,14 +73,14 @@ untold fault old n h told =
     empty (x ∷ xs) e = cc
 
 quiet : (fault : ProgramFault) (old : List ℕ) (n status : ℕ) → n < most → EndsWellOr fault (stream (Some old) n) (stream (Some old) n) status → status ≡ 0
-quiet fault old n status h (inl well) = well.ends
-quiet fault old n status h (inr badly) = absurd (untold fault old n h badly.told)
+quiet fault old n status h (inl well) = well.0
+quiet fault old n status h (inr badly) = absurd (untold fault old n h badly.1)
 
 pub ends_telling : (fault : ProgramFault) (old new : List ℕ) (n m status : ℕ) → EndsTelling fault old new n m status
 ends_telling fault old new n m status =
     record {
-      well = λ e. (e.ends, e.told.0, e.told.1);
-      badly = λ e. (e.ends, e.told);
+      well = λ e. e;
+      badly = λ e. e;
       quiet = quiet fault old n status;
     }
 
@@ -92,23 +92,23 @@ refuses_aloud words old n h (inr (inr (rows, fault, parse, refused, told))) = ab
 -- ---- statuses
 
 by_run : (result : Result (Unit {0}) RunFault) (flushed : Result (Unit {0}) DeviceFault) (before after : Stream) (status : ℕ) → EndsBy (ended_by result flushed) before after status → status ≤ 1
-by_run (Ok done) (Ok flushed) before after status e = omega (arith, e.ends)
-by_run (Ok done) (Err fault) before after status e = omega (arith, e.ends)
-by_run (Err fault) flushed before after status e = omega (arith, e.ends)
+by_run (Ok done) (Ok flushed) before after status e = omega (arith, e.0)
+by_run (Ok done) (Err fault) before after status e = omega (arith, e.0)
+by_run (Err fault) flushed before after status e = omega (arith, e.0)
 
 quiet_run : (result : Result (Unit {0}) RunFault) (flushed : Result (Unit {0}) DeviceFault) (old : List ℕ) (n status : ℕ) → n < most
     → EndsBy (ended_by result flushed) (stream (Some old) n) (stream (Some old) n) status → status ≡ 0
-quiet_run (Ok done) (Ok flushed) old n status h e = e.ends
-quiet_run (Ok done) (Err fault) old n status h e = absurd (untold (program.Run Write) old n h e.told)
-quiet_run (Err fault) flushed old n status h e = absurd (untold (program.Run fault) old n h e.told)
+quiet_run (Ok done) (Ok flushed) old n status h e = e.0
+quiet_run (Ok done) (Err fault) old n status h e = absurd (untold (program.Run Write) old n h e.1)
+quiet_run (Err fault) flushed old n status h e = absurd (untold (program.Run fault) old n h e.1)
 
 by_socket : (before after : Stream) (status : ℕ) → EndsWellOr program.Socket before after status → status ≤ 1
-by_socket before after status (inl e) = omega (arith, e.ends)
-by_socket before after status (inr e) = omega (arith, e.ends)
+by_socket before after status (inl e) = omega (arith, e.0)
+by_socket before after status (inr e) = omega (arith, e.0)
 
 by_write : (before after : Stream) (status : ℕ) → EndsWellOr (program.Run Write) before after status → status ≤ 1
-by_write before after status (inl e) = omega (arith, e.ends)
-by_write before after status (inr e) = omega (arith, e.ends)
+by_write before after status (inl e) = omega (arith, e.0)
+by_write before after status (inr e) = omega (arith, e.0)
 
 by_ran : (port : Option Text) (o : Options) (to_come left old new : Option (List ℕ)) (before after : Stream) (status : ℕ)
     → RanBut port o to_come left old new before after status → status ≤ 1
@@ -142,9 +142,14 @@ answers_by_status words to_come left old new faults told n status =
 
 -- ---- the text of a run
 
+-- with status 0 the run had no fault
+well : (result : Result (Unit {0}) RunFault) (flushed : Result (Unit {0}) DeviceFault) (before after : Stream) → EndsBy (ended_by result flushed) before after 0 → is_ok result ≡ true
+well (Ok done) flushed before after e = refl
+well (Err fault) flushed before after e = absurd (omega (arith, e.0))
+
 ran_all : (o : Options) (input left old new : List ℕ) (before after : Stream) → RanBy o (Some input) (Some left) (Some old) (Some new) before after 0
     → (left ≡ []) × (new ≡ old ++ text (opened o) input)
-ran_all o input left old new before after ran = done ran.result (ran.done refl) ran.read ran.ends
+ran_all o input left old new before after ran = done ran.result (well ran.result ran.flushed before after ran.ended) ran.read ran.ends
   where
     done : (r : Result (Unit {0}) RunFault) → is_ok r ≡ true → HasRead (Some left) ran.input r → Ends (opened o) ran.input (Some left) (Some old) (Some new) ran.agent r
         → (left ≡ []) × (new ≡ old ++ text (opened o) input)

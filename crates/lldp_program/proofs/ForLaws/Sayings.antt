@@ -1,13 +1,13 @@
 -- Which form the first word of a line begins, and which lines are skipped.
 use Rattle.std.proofs.Common.{◌≡◌, ℕ, ◌≤◌, ◌⊎◌, true, false, Bool, List, [], ◌∷◌, ◌++◌, length, Result, Ok, Err, refl, ap, inl, inr}
-use Rattle.std.specs.Prelude.{◌≢◌, ◌==◌, if◌then◌else◌}
+use Rattle.std.specs.Prelude.{◌≢◌, ◌==◌, if◌then◌else◌, ok_or}
 use Rattle.std.proofs.lemmas.Bool.{cases_Bool, cases_lt, lt-ltb, le-ltb, eqb-true, or_cases}
 use Rattle.std.proofs.lemmas.Slice.Eq.{bytes_eq-Decides}
 use Rattle.std.specs.Str.{bytes_eq}
 use Rattle.hex.specs.Hex.{decode_of}
 use Rattle.lldp_text.specs.declared.fault.CommandFault.{CommandFault}
 use Rattle.lldp_text.specs.declared.fault.CommandFault.TheVariants.{Quote}
-use Rattle.lldp_text.specs.Answer.{or_fault, on_ok, ◌>>=◌}
+use Rattle.lldp_text.specs.Answer.{on_ok, ◌>>=◌}
 use Rattle.lldp_text.specs.Number.{number_of}
 use Rattle.lldp_text.specs.Words.{words_of, is_separator}
 use Rattle.lldp_engine.specs.AgentState.{AgentState, names_of}
@@ -15,9 +15,11 @@ use Rattle.lldp_engine.specs.Given.{command_said}
 use Rattle.lldp_engine.specs.NextWords.{word_said, port_said, end_said}
 use Rattle.lldp_engine.specs.Command.{Command as Asked}
 use Rattle.lldp_program.specs.declared.line.LineFault.{LineFault}
-use Rattle.lldp_program.specs.Trace.Forms.{of_command, or_hex, tick_form, frame_form, link_form, form_of, is_skipped, work_given}
+use Rattle.lldp_program.specs.Trace.Forms.{of_command, tick_form, frame_form, link_form, form_of, is_skipped, work_given}
 use Rattle.lldp_program.specs.Laws.Sayings.{tick_word, rx_word, up_word, down_word, AreBlanks, IsPassedOver, SkipsLines}
 use Rattle.lldp_program.specs.Trace.Work.{Work, skip, ticks, command}
+use Rattle.std.specs.Result.{result_map_both}
+use Rattle.lldp_program.specs.declared.line.LineFault.TheVariants.{Hex}
 
 differs : (a b : List ℕ) → a ≢ b → bytes_eq a b ≡ false
 differs a b ne = elim (cases_Bool (bytes_eq a b)) [
@@ -50,7 +52,7 @@ frame_never : (agent : AgentState) (words : List (List ℕ)) → frame_form agen
 unfolding frame_form
 frame_never agent words h =
     then_never (of_command (port_said (names_of agent) words)) _ (λ port. then_never (of_command (word_said port.1)) _ (λ digits.
-    then_never (or_hex (decode_of digits.0)) _ (λ octets. then_never (of_command (end_said digits.1)) _ (λ _ k. cc)))) h
+    then_never (result_map_both (λ octets. octets) (λ fault. Hex) (decode_of digits.0)) _ (λ octets. then_never (of_command (end_said digits.1)) _ (λ _ k. cc)))) h
 
 link_never : (agent : AgentState) (up : Bool) (words : List (List ℕ)) → link_form agent up words ≡ Ok skip → ⊥
 unfolding link_form
@@ -115,7 +117,7 @@ skips_then agent line h = elim (cases_lt 4096 (length line)) [
       let fits = rw (le-ltb 4096 (length line) short) at h in
       elim (cases_Bool (is_skipped line)) [
         | inl is ↦ (short, skipped_is_passed line is)
-        | inr not_one ↦ absurd (then_never (of_command (or_fault (words_of line) Quote)) (form_of agent) (form_never agent) (rw not_one at fits))
+        | inr not_one ↦ absurd (then_never (of_command (ok_or (words_of line) Quote)) (form_of agent) (form_never agent) (rw not_one at fits))
       ]
 ]
 

@@ -3,11 +3,11 @@ use Rattle.std.proofs.Common.{◌≡◌, ℕ, ◌<◌, true, nat_lt, List, [], �
 use Rattle.std.proofs.lemmas.Bool.{cases_lt, lt-ltb}
 use Rattle.std.proofs.lemmas.List.{take_all}
 use Rattle.lldp_engine.specs.Past.{Past}
-use Rattle.lldp_program.specs.Trace.Lines.{ended_lines, unfinished, if_any}
 use Rattle.lldp_program.specs.Trace.Forms.{work_given}
 use Rattle.lldp_program.specs.Trace.Items.{refused, after_all, items_of, items_of_lines}
 use Rattle.lldp_program.specs.declared.line.LineFault.TheVariants.{TooLong}
-use Rattle.lldp_program.proofs.Lines.Pieces.{onto_all, ended_lines-onto, unfinished_no_lf, no_lf-take}
+use Rattle.lldp_program.proofs.Lines.Pieces.{onto_all, pieces-onto, unfinished_no_lf, no_lf-take}
+use Rattle.lldp_program.specs.Code.Pieces.{pieces, unfinished, if_any}
 
 pub too_long : (past : Past) (line : List ℕ) → 4096 < length line → items_of past line ≡ refused TooLong ∷ []
 unfolding work_given
@@ -22,15 +22,15 @@ same_onto past p q (l ∷ ls) h k =
     same_first past (p ++ l) (q ++ l) ls (too_long past (p ++ l) (omega (arith, length-append p l)) ∙ sym (too_long past (q ++ l) (omega (arith, length-append q l))))
 
 -- the next lines ask for the same items if only 4,097 octets of the unfinished line are kept
-pub same_items : (past : Past) (xs ys : List ℕ) → items_of_lines past (ended_lines (take 4097 (unfinished xs) ++ ys)) ≡ items_of_lines past (ended_lines (unfinished xs ++ ys))
+pub same_items : (past : Past) (xs ys : List ℕ) → items_of_lines past (pieces (take 4097 (unfinished xs) ++ ys)) ≡ items_of_lines past (pieces (unfinished xs ++ ys))
 same_items past xs ys =
     let p = unfinished xs in
-    let none : ended_lines p ≡ [] = unfinished_no_lf xs in
+    let none : pieces p ≡ [] = unfinished_no_lf xs in
     elim (cases_lt 4097 (length p)) [
       | inl lt ↦
-          ap (items_of_lines past) (ended_lines-onto (take 4097 p) ys (no_lf-take 4097 p none))
-          ∙ same_onto past (take 4097 p) p (ended_lines ys) (omega (arith, length-take 4097 p)) (omega arith) ∙ ap (items_of_lines past) (sym (ended_lines-onto p ys none))
-      | inr le ↦ ap (λ t. items_of_lines past (ended_lines (t ++ ys))) (take_all 4097 p le)
+          ap (items_of_lines past) (pieces-onto (take 4097 p) ys (no_lf-take 4097 p none))
+          ∙ same_onto past (take 4097 p) p (pieces ys) (omega (arith, length-take 4097 p)) (omega arith) ∙ ap (items_of_lines past) (sym (pieces-onto p ys none))
+      | inr le ↦ ap (λ t. items_of_lines past (pieces (t ++ ys))) (take_all 4097 p le)
     ]
 
 -- the last line asks for the same items if only its first 4,097 octets are kept

@@ -11,10 +11,10 @@ use Rattle.lldp_engine.specs.Place.{place_of}
 use Rattle.lldp_text.specs.Words.{is_bare, is_separator, words_of, AreWords}
 use Rattle.lldp_text.proofs.WordsGrammar.{read_from_spelled}
 use Rattle.lldp_program.specs.Trace.Forms.{work_given, form_of, frame_form}
-use Rattle.lldp_program.specs.Trace.Lines.{ended_lines}
 use Rattle.lldp_program.specs.Trace.Work.{frame}
 use Rattle.lldp_program.specs.Code.Plain.{is_plain_octet, EndsAt}
 use Rattle.lldp_program.proofs.Lines.Pieces.{no_lf-append, none_found}
+use Rattle.lldp_program.specs.Code.Pieces.{pieces}
 
 -- a hexadecimal digit is neither a separator nor a quote
 digit_is_bare : (c : ℕ) → is_hex_digit c ≡ true → is_bare c ≡ true
@@ -50,7 +50,7 @@ plain_is_bare : (c : ℕ) → is_plain_octet c ≡ true → is_bare c ≡ true
 plain_is_bare c h = grind (arith)
 
 -- a text of octets that p lets pass has no LF if p stops LF
-passing_no_lf : (p : ℕ → Bool) (xs : List ℕ) → p 10 ≡ false → AllPass p xs → ended_lines xs ≡ []
+passing_no_lf : (p : ℕ → Bool) (xs : List ℕ) → p 10 ≡ false → AllPass p xs → pieces xs ≡ []
 passing_no_lf p xs stops all =
     none_found xs (λ k low high found.
     let is : get_or xs k 0 ≡ 10 = eqb-true _ _ found in
@@ -83,7 +83,7 @@ front_line text name digits octets n e plain within lf o =
       ends = record {
         within = omega (arith, ap length whole, length-append line (10 ∷ rest), long);
         line_feed = ap (λ (t : List ℕ). get_or t end 0) whole ∙ get_or-append_right line (10 ∷ rest) end end 0 long (omega arith) ∙ ap (λ (k : ℕ). get_or (10 ∷ rest) k 0) none;
-        clear = ap ended_lines taken ∙ no_lf-append (114 ∷ 120 ∷ 32 ∷ []) (name ++ 32 ∷ front) refl (no_lf-append name (32 ∷ front) named (no_lf-append (32 ∷ []) front refl digit));
+        clear = ap pieces taken ∙ no_lf-append (114 ∷ 120 ∷ 32 ∷ []) (name ++ 32 ∷ front) refl (no_lf-append name (32 ∷ front) named (no_lf-append (32 ∷ []) front refl digit));
       };
       line = taken;
       long = ap length taken ∙ long;

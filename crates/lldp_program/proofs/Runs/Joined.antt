@@ -11,7 +11,7 @@ use Rattle.lldp_engine.specs.Lines.{lines_of}
 use Rattle.lldp_engine.specs.AgentState.{AgentState}
 use Rattle.lldp_engine.proofs.Headline.{promised as keeps_promise}
 use Rattle.lldp_program.specs.declared.line.LineFault.{LineFault}
-use Rattle.lldp_program.specs.Trace.Lines.{ended, ended_lines, unfinished}
+use Rattle.lldp_program.specs.Trace.Lines.{ended}
 use Rattle.lldp_program.specs.Code.Plain.{EndsAt}
 use Rattle.lldp_program.proofs.Lines.Pieces.{ends_within, first_line, lines_split}
 use Rattle.lldp_program.specs.Trace.Items.{Item, happens, shows, refused, after, after_all, text_of, text_of_all, items_of, items_of_work, items_of_lines}
@@ -26,6 +26,7 @@ use Rattle.lldp_program.specs.Trace.Forms.{fault_text, work_given}
 use Rattle.lldp_program.proofs.Texts.Taken.{same_then}
 use Rattle.lldp_program.proofs.Texts.Written.{appends_then, appends_nothing, appends_same}
 use Rattle.lldp_program.proofs.Runs.Items.{after_all-append, text_of_all-append, items_of_lines-append}
+use Rattle.lldp_program.specs.Code.Pieces.{pieces, unfinished}
 
 pub done_none : (past : Past) (a : Option (List ℕ)) (agent : AgentState) → Stands past agent → Done past [] a a agent
 done_none past a agent h = record { written = appends_nothing a; stands = h; promised = keeps_promise past agent h }
@@ -154,35 +155,35 @@ ticks_left (suc i) (suc n) lt = let left = ticks_left i n (omega arith) in (left
 -- ## Lines
 
 -- the first line of a text asks for these items
-pub first_items : (past : Past) (xs : List ℕ) (end : ℕ) → EndsAt xs end → items_of_lines past (take 1 (ended_lines xs)) ≡ items_of past (take end xs)
+pub first_items : (past : Past) (xs : List ℕ) (end : ℕ) → EndsAt xs end → items_of_lines past (take 1 (pieces xs)) ≡ items_of past (take end xs)
 first_items past xs end e = ap (λ ls. items_of_lines past (take 1 ls)) (first_line xs end e) ∙ append-nil (items_of past (take end xs))
 
 -- the same of a line that is found in a longer text
-pub line_items : (past : Past) (text : List ℕ) (held end : ℕ) → EndsAt (take held text) end → items_of past (take end text) ≡ items_of_lines past (take 1 (ended_lines (take held text)))
+pub line_items : (past : Past) (text : List ℕ) (held end : ℕ) → EndsAt (take held text) end → items_of past (take end text) ≡ items_of_lines past (take 1 (pieces (take held text)))
 line_items past text held end e =
     let within : end ≤ held = omega (arith, e.within, length-take held text) in
     ap (items_of past) (sym (take-take end held text within)) ∙ sym (first_items past (take held text) end e)
 
 -- a frame on that line is received
 pub frame_items : (past : Past) (agent : AgentState) (text octets : List ℕ) (held end port : ℕ) → EndsAt text end → end < held → work_given agent (take end text) ≡ Ok (frame port octets) → agent ≡ agent_of past
-    → happens (event.frame port octets) ∷ [] ≡ items_of_lines past (take 1 (ended_lines (take held text)))
+    → happens (event.frame port octets) ∷ [] ≡ items_of_lines past (take 1 (pieces (take held text)))
 frame_items past agent text octets held end port e h work is =
     ap items_of_work (sym work ∙ ap (λ seen. work_given seen (take end text)) is) ∙ line_items past text held end (ends_within text end held e h)
 
 -- the items of the next line follow those of the lines before it
-pub next_items : (past : Past) (xs rest : List ℕ) (start : ℕ) (lines : List (List ℕ)) → rest ≡ drop start xs → lines ≡ ended_lines (take start xs) ++ take 1 (ended_lines (drop start xs))
-    → items_of_lines past (ended_lines (take start xs)) ++ items_of_lines (after_all past (items_of_lines past (ended_lines (take start xs)))) (take 1 (ended_lines rest)) ≡ items_of_lines past lines
+pub next_items : (past : Past) (xs rest : List ℕ) (start : ℕ) (lines : List (List ℕ)) → rest ≡ drop start xs → lines ≡ pieces (take start xs) ++ take 1 (pieces (drop start xs))
+    → items_of_lines past (pieces (take start xs)) ++ items_of_lines (after_all past (items_of_lines past (pieces (take start xs)))) (take 1 (pieces rest)) ≡ items_of_lines past lines
 next_items past xs rest start lines is all =
-    rw (is, all) (sym (items_of_lines-append past (ended_lines (take start xs)) (take 1 (ended_lines (drop start xs)))))
+    rw (is, all) (sym (items_of_lines-append past (pieces (take start xs)) (take 1 (pieces (drop start xs)))))
 
 -- the items of all lines begin with those
 pub later_items : (xs : List ℕ) (start : ℕ) → unfinished (take start xs) ≡ []
-    → (later : Past → List Item) × ((past : Past) → items_of_lines past (ended_lines (take start xs) ++ take 1 (ended_lines (drop start xs))) ++ later past ≡ items_of_lines past (ended_lines xs))
+    → (later : Past → List Item) × ((past : Past) → items_of_lines past (pieces (take start xs) ++ take 1 (pieces (drop start xs))) ++ later past ≡ items_of_lines past (pieces xs))
 later_items xs start whole =
-    let first = ended_lines (take start xs) ++ take 1 (ended_lines (drop start xs)) in
-    let later = drop 1 (ended_lines (drop start xs)) in
-    let all : first ++ later ≡ ended_lines xs =
-    append_assoc (ended_lines (take start xs)) (take 1 (ended_lines (drop start xs))) later ∙ ap (λ ls. ended_lines (take start xs) ++ ls) (take-append-drop 1 (ended_lines (drop start xs)))
+    let first = pieces (take start xs) ++ take 1 (pieces (drop start xs)) in
+    let later = drop 1 (pieces (drop start xs)) in
+    let all : first ++ later ≡ pieces xs =
+    append_assoc (pieces (take start xs)) (take 1 (pieces (drop start xs))) later ∙ ap (λ ls. pieces (take start xs) ++ ls) (take-append-drop 1 (pieces (drop start xs)))
     ∙ sym (lines_split xs start whole) in
     ((λ past. items_of_lines (after_all past (items_of_lines past first)) later), λ past. sym (items_of_lines-append past first later) ∙ ap (items_of_lines past) all)
 

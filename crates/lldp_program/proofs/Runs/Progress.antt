@@ -4,9 +4,9 @@ use Rattle.std.specs.Io.KnownBytes.{Consumes}
 use Rattle.lldp_engine.specs.AgentState.{AgentState}
 use Rattle.lldp_engine.specs.Past.{Past}
 use Rattle.lldp_engine.specs.Standing.{Stands}
-use Rattle.lldp_program.specs.Trace.Lines.{ended_lines, unfinished}
 use Rattle.lldp_program.specs.Trace.Items.{items_of_lines}
 use Rattle.lldp_program.specs.Trace.Runs.{Done}
+use Rattle.lldp_program.specs.Code.Pieces.{pieces, unfinished}
 
 -- Each of `reads` reads returned at least one octet. Each line whose LF was read is done, and
 -- `held` is the first 4,097 octets of the unfinished line.
@@ -15,4 +15,4 @@ pub record Progress (to_come left old new : Option (List ℕ)) (before after : A
   pub consumed : Consumes to_come left input
   pub many : reads ≤ length input
   pub front : held ≡ take 4097 (unfinished input)
-  pub done : (past : Past) → Stands past before → Done past (items_of_lines past (ended_lines input)) old new after
+  pub done : (past : Past) → Stands past before → Done past (items_of_lines past (pieces input)) old new after

@@ -15,8 +15,8 @@ use Rattle.lldp_engine.proofs.Frames.Past.{configuration_reads}
 use Rattle.lldp_engine.proofs.Readers.{names_read}
 use Rattle.lldp_program.specs.Trace.Lines.{ended}
 use Rattle.lldp_program.specs.Trace.Items.{Item, happens}
-use Rattle.lldp_program.specs.Trace.Sent.{sent_line, mark_line, sent_text}
-use Rattle.lldp_program.specs.Code.Output.{Output, Puts, Writes}
+use Rattle.lldp_program.specs.Trace.Sent.{mark_line, sent_text}
+use Rattle.lldp_program.specs.Code.Output.{Output, Puts, Writes, sent_line}
 use Rattle.lldp_program.specs.Code.Parts.{RunsItems}
 use Rattle.lldp_program.specs.declared.device.DeviceFault.{DeviceFault}
 use Rattle.lldp_program.proofs.Texts.Taken.{in_parts, puts_then}

@@ -1,10 +1,12 @@
 -- How an output buffers text and writes it to its sink.
-use Rattle.std.specs.Prelude.{◌≡◌, ℕ, List, [], ◌++◌, Option, Result, Ok, Err, OnOk}
+use Rattle.std.specs.Prelude.{◌≡◌, ℕ, List, [], ◌++◌, Option, Result, Ok, Err, OnOk, codes}
 use Rattle.std.specs.Borrow.{GName}
 use Rattle.std.specs.Io.KnownBytes.{Appends}
 use Rattle.lldp_program.specs.declared.device.DeviceFault.{DeviceFault}
 use Rattle.lldp_program.specs.Devices.Counts.{failures_after}
 use Rattle.lldp_program.specs.Trace.Runs.{IsCutOff}
+use Rattle.hex.specs.Hex.{encode_lower}
+use Rattle.lldp_program.specs.Trace.Lines.{ended}
 
 -- some text with this property was written
 abbrev pub IsWritten : (List ℕ → Type 0) → Option (List ℕ) → Option (List ℕ) → Type 0
@@ -70,3 +72,7 @@ begun output = record output { waits = []; answer = Ok tt }
 pub record Writes (text : List ℕ) (answer : Result (Unit {0}) DeviceFault) (old new : Output) : Type 0 where
   pub written : WrittenBy answer text old.taken new.taken
   pub same : SameSink answer old new
+
+-- the line `tx NAME HEX` for a frame of a port, in lower case hexadecimal and with its LF
+abbrev pub sent_line : List ℕ → List ℕ → List ℕ
+sent_line name frame = ended (codes "tx " ++ name ++ codes " " ++ encode_lower frame)

@@ -1,5 +1,5 @@
 -- The program's command line as `clap` reads it, and what its arguments ask for.
-use Rattle.std.specs.Prelude.{◌≡◌, ◌⊎◌, ℕ, true, false, if◌then◌else◌, List, [], ◌∷◌, Option, Some, None, IsSomeAnd, Ok, map, option_map, unwrap_or, codes, pos}
+use Rattle.std.specs.Prelude.{◌≡◌, ◌⊎◌, ℕ, true, false, if◌then◌else◌, List, [], ◌∷◌, Option, Some, None, IsSomeAnd, Ok, map, option_map, unwrap_or, codes, pos, fold}
 use Rattle.std.specs.Str.{bytes_eq}
 use Rattle.std.specs.Borrow.{Bor}
 use Rattle.std.specs.Net.Grammar.{IsDotted}
@@ -20,6 +20,8 @@ use Rattle.lldp_program.specs.CommandLine.Addresses.{IsMac}
 use Rattle.lldp_program.specs.declared.arguments.Listening.{Listening}
 use Rattle.lldp_program.specs.declared.arguments.AddressFault.{AddressFault}
 use Rattle.lldp_program.specs.declared.arguments.AddressFault.TheVariants.{Mac, Management}
+use Rattle.lldp_table.specs.Ranges.{most_neighbors}
+use Rattle.lldp_transmit.specs.Ranges.{most_credit_max, most_fast_init, most_reinit}
 
 -- an option that has a value; the help has a name for it
 abbrev pub valued_rule : Text → Rule
@@ -58,21 +60,19 @@ ports_rule =
 -- the command line: `--version`, the options in the order of the help, and the ports
 abbrev pub program : Bor (List (Bor Text)) → App
 program roles =
-    with_rule (with_rule (with_rule (with_rule (with_rule (with_rule
-    (with_rule (with_rule (with_rule (with_rule (with_rule (with_rule
-    (on_top (λ s. record s { has_version = true }) (new_app (codes "lldpa")))
-    (number_rule (codes "max-neighbors") 128 (codes "32")))
-    (text_rule (codes "mac") (codes "02:00:00:00:00:01")))
-    (text_rule (codes "hostname") (codes "localhost")))
-    (valued_rule (codes "management")))
-    (role_rule roles))
-    (number_rule (codes "tx-credit-max") 10 (codes "5")))
-    (number_rule (codes "tx-fast-init") 8 (codes "4")))
-    (number_rule (codes "reinit-delay") 10 (codes "2")))
-    receive_only_rule)
-    listen_rule)
-    (number_rule (codes "connections") 65535 (codes "1")))
-    ports_rule
+    fold with_rule (on_top (λ s. record s { has_version = true }) (new_app (codes "lldpa")))
+    (number_rule (codes "max-neighbors") most_neighbors (codes "32")
+    ∷ text_rule (codes "mac") (codes "02:00:00:00:00:01")
+    ∷ text_rule (codes "hostname") (codes "localhost")
+    ∷ valued_rule (codes "management")
+    ∷ role_rule roles
+    ∷ number_rule (codes "tx-credit-max") most_credit_max (codes "5")
+    ∷ number_rule (codes "tx-fast-init") most_fast_init (codes "4")
+    ∷ number_rule (codes "reinit-delay") most_reinit (codes "2")
+    ∷ receive_only_rule
+    ∷ listen_rule
+    ∷ number_rule (codes "connections") 65535 (codes "1")
+    ∷ ports_rule ∷ [])
 
 -- the role with this name, or Station for any other name
 abbrev pub role_named : Text → Role

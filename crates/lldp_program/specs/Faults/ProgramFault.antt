@@ -29,11 +29,6 @@ status_of (Run fault) = 1
 status_of Socket = 1
 status_of refusal = 2
 
--- the status of the program, by how it ended
-abbrev pub status_after : Result (Unit {0}) ProgramFault → ℕ
-status_after (Ok done) = 0
-status_after (Err fault) = status_of fault
-
 -- how the program ends after a run and the flush; if both failed, with the fault of the run
 abbrev pub ended_by : Result (Unit {0}) RunFault → Result (Unit {0}) DeviceFault → Result (Unit {0}) ProgramFault
 ended_by (Ok done) (Ok flushed) = Ok tt

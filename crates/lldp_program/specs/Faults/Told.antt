@@ -3,7 +3,7 @@ use Rattle.std.specs.Prelude.{◌≡◌, ◌⊎◌, ℕ, List, Option, Result, O
 use Rattle.std.specs.Io.KnownBytes.{Appends, Keeps}
 use Rattle.lldp_program.specs.Devices.Counts.{one_more}
 use Rattle.lldp_program.specs.declared.fault.ProgramFault.{ProgramFault}
-use Rattle.lldp_program.specs.Faults.ProgramFault.{line_of, status_after}
+use Rattle.lldp_program.specs.Faults.ProgramFault.{line_of, status_of}
 use Rattle.lldp_program.specs.Trace.Runs.{IsCutOff}
 
 -- the stream that faults are written to: its octets, and how many writes failed
@@ -21,15 +21,11 @@ IsTold fault old new =
     ⊎ ((part : List ℕ) × IsCutOff (line_of fault) part × Appends old.taken new.taken part
     × (new.failures ≡ one_more old.failures))
 
--- nothing was written if there was no fault, otherwise the line of the fault was written
-abbrev pub TellsEnd : Result (Unit {0}) ProgramFault → Stream → Stream → Type 0
-TellsEnd (Ok done) old new = Keeps old.taken new.taken × (new.failures ≡ old.failures)
-TellsEnd (Err fault) old new = IsTold fault old new
-
--- The program ended in this way: it returned the right status, and reported the fault, if any.
-pub record EndsBy (ended : Result (Unit {0}) ProgramFault) (old new : Stream) (status : ℕ) : Type 0 where
-  pub ends : status ≡ status_after ended
-  pub told : TellsEnd ended old new
+-- How the program ended. Without a fault the status is 0, and nothing was written. With a fault the
+-- status is the fault's, and its line was written.
+abbrev pub EndsBy : Result (Unit {0}) ProgramFault → Stream → Stream → ℕ → Type 0
+EndsBy (Ok done) old new status = (status ≡ 0) × Keeps old.taken new.taken × (new.failures ≡ old.failures)
+EndsBy (Err fault) old new status = (status ≡ status_of fault) × IsTold fault old new
 
 -- The program ended without a fault, or with this one.
 abbrev pub EndsWellOr : ProgramFault → Stream → Stream → ℕ → Type 0

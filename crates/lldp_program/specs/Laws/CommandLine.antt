@@ -18,6 +18,8 @@ use Rattle.lldp_engine.specs.Options.{Options, InRange}
 use Rattle.lldp_program.specs.CommandLine.Addresses.{IsMac}
 use Rattle.lldp_program.specs.CommandLine.Usage.{AreRoles, AsksManagement, IsBad, program, role_named}
 use Rattle.lldp_program.specs.Laws.Listening.{IsNumberIn}
+use Rattle.lldp_table.specs.Ranges.{most_neighbors}
+use Rattle.lldp_transmit.specs.Ranges.{most_credit_max, most_fast_init, most_reinit}
 
 -- the rules of the program's command line, in the order of the help
 abbrev pub rules : Bor (List (Bor Text)) → List Rule
@@ -51,7 +53,7 @@ pub record HasOptions (roles : Bor (List (Bor Text))) : Type 0 where
       ∷ Some (codes "connections") ∷ None ∷ []
   pub plain : AllByRecursion IsPlain (rules roles)
   pub takes : map (λ r. r.parser) (rules roles)
-      ≡ number_to 128 ∷ None ∷ None ∷ None ∷ Some (Names roles) ∷ number_to 10 ∷ number_to 8 ∷ number_to 10 ∷ None
+      ≡ number_to most_neighbors ∷ None ∷ None ∷ None ∷ Some (Names roles) ∷ number_to most_credit_max ∷ number_to most_fast_init ∷ number_to most_reinit ∷ None
       ∷ number_to 65535 ∷ number_to 65535 ∷ None ∷ []
   -- in order: 32; 02:00:00:00:00:01; localhost; none; station; 5; 4; 2; none; none; 1; none
   pub defaults : map (λ r. r.defaults) (rules roles)

@@ -15,12 +15,13 @@ use Rattle.lldp_program.specs.declared.fault.ProgramFault.TheVariants as program
 use Rattle.lldp_program.specs.Faults.ProgramFault.{ended_by, line_of, status_of}
 use Rattle.lldp_program.specs.Serving.{this_host}
 use Rattle.lldp_program.specs.Faults.FaultNumber.{number_of_run_fault, number_of_serve_fault, number_of_line_fault}
+use Rattle.lldp_program.specs.Ranges.{most_of_line}
 
 -- The statuses 0 and 2; the most octets of a line; the most reads of a run; the numbers of faults;
 -- the status of each fault, 1 for the first four and 2 for the others; the octets of 127.0.0.1.
 pub record AreNumbers : Type 0 where
   pub statuses : DONE ∷ REFUSED ∷ [] ≡ 0 ∷ 2 ∷ []
-  pub longest : LONGEST ≡ 4096
+  pub longest : LONGEST ≡ most_of_line
   pub reads : MOST_READS ≡ 4294967295
   pub runs : map number_of_run_fault (Read ∷ Write ∷ InputTooLong ∷ []) ≡ 1 ∷ 2 ∷ 3 ∷ []
   pub serving : map number_of_serve_fault (Accept ∷ []) ≡ 1 ∷ []

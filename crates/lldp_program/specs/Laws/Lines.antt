@@ -1,7 +1,7 @@
 -- How an input is cut into lines: at each LF, and nowhere else.
-use Rattle.std.specs.Prelude.{◌≡◌, ◌≢◌, ◌↔◌, ℕ, List, [], ◌∷◌, ◌++◌}
+use Rattle.std.specs.Prelude.{◌≡◌, ◌≢◌, ℕ, List, [], ◌∷◌, ◌++◌}
 use Rattle.std.specs.List.{AllByRecursion}
-use Rattle.lldp_program.specs.Trace.Lines.{ended_lines, unfinished, lines_of}
+use Rattle.lldp_program.specs.Trace.Lines.{ended_lines, lines_of}
 
 -- no octet is LF
 abbrev pub HasNoLf : List ℕ → Type 0
@@ -18,10 +18,11 @@ pub record IsCut (input : List ℕ) (lines : List (List ℕ)) (rest : List ℕ) 
   pub each : AllByRecursion HasNoLf lines
   pub last : HasNoLf rest
 
--- `ended_lines` and `unfinished` return these lines and this rest exactly if `IsCut` holds for
--- them. A rest that is not empty is the last line.
+-- Every input is cut, and in one way alone: `ended_lines` returns the lines, and `lines_of` also the
+-- rest, unless it is empty.
 pub record CutsLines (input : List ℕ) : Type 0 where
-  pub cut : (lines : List (List ℕ)) (rest : List ℕ) →
-      ((ended_lines input ≡ lines) × (unfinished input ≡ rest)) ↔ IsCut input lines rest
-  pub ended : unfinished input ≡ [] → lines_of input ≡ ended_lines input
-  pub unended : unfinished input ≢ [] → lines_of input ≡ ended_lines input ++ unfinished input ∷ []
+  pub cut : (lines : List (List ℕ)) × (rest : List ℕ) × IsCut input lines rest
+  pub ended : (lines : List (List ℕ)) (rest : List ℕ) → IsCut input lines rest → ended_lines input ≡ lines
+  pub whole : (lines : List (List ℕ)) → IsCut input lines [] → lines_of input ≡ lines
+  pub unended : (lines : List (List ℕ)) (rest : List ℕ) → rest ≢ [] → IsCut input lines rest →
+      lines_of input ≡ lines ++ rest ∷ []

@@ -12,10 +12,11 @@ use Rattle.lldp_program.specs.declared.line.LineFault.TheVariants.{TooLong, Hex,
 use Rattle.lldp_program.specs.Trace.Forms.{tick_form, frame_form, link_form, form_of, work_given}
 use Rattle.lldp_program.specs.Trace.Work.{Work, skip, ticks, frame, link, command}
 use Rattle.lldp_program.specs.Laws.Sayings.{tick_word, rx_word, up_word, down_word, IsPassedOver}
+use Rattle.lldp_program.specs.Ranges.{most_of_line, most_ticks}
 
 -- the line is neither too long nor skipped, and these are its words
 pub record IsReadAs (line : List ℕ) (words : List (List ℕ)) : Type 0 where
-  pub short : length line ≤ 4096
+  pub short : length line ≤ most_of_line
   pub read : IsPassedOver line → ⊥
   pub are : AreWords line words
 
@@ -23,13 +24,13 @@ pub record IsReadAs (line : List ℕ) (words : List (List ℕ)) : Type 0 where
 -- does not split into words, a quote is misplaced.
 pub record SaysItsWords (agent : AgentState) (line : List ℕ) : Type 0 where
   pub words : (words : List (List ℕ)) → IsReadAs line words → work_given agent line ≡ form_of agent words
-  pub quote : length line ≤ 4096 → (IsPassedOver line → ⊥) → ((words : List (List ℕ)) → AreWords line words → ⊥) →
+  pub quote : length line ≤ most_of_line → (IsPassedOver line → ⊥) → ((words : List (List ℕ)) → AreWords line words → ⊥) →
       work_given agent line ≡ Err (Command Quote)
-  pub long : 4096 < length line → work_given agent line ≡ Err TooLong
+  pub long : most_of_line < length line → work_given agent line ≡ Err TooLong
 
 -- the word spells this number of ticks, 1 to 65535
 abbrev pub SaysTicks : ℕ → List ℕ → Type 0
-SaysTicks n word = number_of word 1 65535 ≡ Ok n
+SaysTicks n word = number_of word 1 most_ticks ≡ Ok n
 
 -- the word is the name of this port
 abbrev pub NamesPort : AgentState → ℕ → List ℕ → Type 0
@@ -61,14 +62,14 @@ AreWordsOfWork agent (command given) words = AreWordsOf agent given words × IsN
 
 -- The lines that ask for this work: blank lines and comments for `skip`, else lines with its words.
 abbrev pub IsLineOfWork : AgentState → Work → List ℕ → Type 0
-IsLineOfWork agent skip line = (length line ≤ 4096) × IsPassedOver line
+IsLineOfWork agent skip line = (length line ≤ most_of_line) × IsPassedOver line
 IsLineOfWork agent work line = (words : List (List ℕ)) × IsReadAs line words × AreWordsOfWork agent work words
 
 -- The fault of the words after `tick`: that of a bad number, or a word too many after the number.
 abbrev pub RefusesTicks : List (List ℕ) → LineFault → Type 0
 RefusesTicks [] fault = ⊥
 RefusesTicks (word ∷ behind) (Command fault) =
-    (number_of word 1 65535 ≡ Err fault)
+    (number_of word 1 most_ticks ≡ Err fault)
     ⊎ ((n : ℕ) × SaysTicks n word × (behind ≢ []) × (fault ≡ Extra))
 RefusesTicks (word ∷ behind) fault = ⊥
 

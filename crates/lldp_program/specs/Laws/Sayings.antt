@@ -9,6 +9,7 @@ use Rattle.lldp_engine.specs.Given.{command_said}
 use Rattle.lldp_program.specs.declared.line.LineFault.TheVariants.{Command}
 use Rattle.lldp_program.specs.Trace.Forms.{of_command, tick_form, frame_form, link_form, form_of, work_given}
 use Rattle.lldp_program.specs.Trace.Work.{command, skip, ticks}
+use Rattle.lldp_program.specs.Ranges.{most_of_line, most_ticks}
 
 abbrev pub tick_word : List ℕ
 tick_word = codes "tick"
@@ -35,11 +36,11 @@ pub record BeginForms (agent : AgentState) (words : List (List ℕ)) : Type 0 wh
 -- `tick` without a number is one tick. `tick` with a number from 1 to 65535 is that many ticks.
 pub record CountTicks : Type 0 where
   pub alone : tick_form [] ≡ Ok (ticks 1)
-  pub numbered : (word : List ℕ) → tick_form (word ∷ []) ≡ on_ok ticks (of_command (number_of word 1 65535))
+  pub numbered : (word : List ℕ) → tick_form (word ∷ []) ≡ on_ok ticks (of_command (number_of word 1 most_ticks))
   -- examples: 1, 60001, 65535, 65536 and 0
   pub least : tick_form ((0x31 ∷ []) ∷ []) ≡ Ok (ticks 1)
   pub many : tick_form ((codes "60001") ∷ []) ≡ Ok (ticks 60001)
-  pub greatest : tick_form ((codes "65535") ∷ []) ≡ Ok (ticks 65535)
+  pub greatest : tick_form ((codes "65535") ∷ []) ≡ Ok (ticks most_ticks)
   pub above : tick_form ((codes "65536") ∷ []) ≡ Err (Command Range)
   pub below : tick_form ((0x30 ∷ []) ∷ []) ≡ Err (Command Range)
 
@@ -54,4 +55,4 @@ IsPassedOver line =
 
 -- A line is skipped exactly if it is blank or a comment, and has at most 4,096 octets.
 abbrev pub SkipsLines : AgentState → List ℕ → Type 0
-SkipsLines agent line = (work_given agent line ≡ Ok skip) ↔ ((length line ≤ 4096) × IsPassedOver line)
+SkipsLines agent line = (work_given agent line ≡ Ok skip) ↔ ((length line ≤ most_of_line) × IsPassedOver line)

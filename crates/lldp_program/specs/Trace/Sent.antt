@@ -7,15 +7,12 @@ use Rattle.lldp_engine.specs.Frames.{frame_of}
 use Rattle.lldp_engine.specs.Past.{Past, Sending, configuration_after, marks_of}
 use Rattle.lldp_program.specs.Trace.Lines.{ended}
 
--- the line `tx NAME HEX` for a frame of a port, in lower case hexadecimal and with its LF
-abbrev pub sent_line : List ℕ → List ℕ → List ℕ
-sent_line name frame = ended (codes "tx " ++ name ++ codes " " ++ encode_lower frame)
-
--- the line for what a port sends, by the names of the ports and the configuration
+-- the line `tx NAME HEX` for what a port sends, by the names of the ports and the configuration: the
+-- frame in lower case hexadecimal, and an LF
 abbrev pub mark_line : List (List ℕ) → Configuration → Sending → List ℕ
 mark_line names configuration mark =
     let name = get_or names mark.0 [] in
-    sent_line name (frame_of configuration name mark.1)
+    ended (codes "tx " ++ name ++ codes " " ++ encode_lower (frame_of configuration name mark.1))
 
 -- the lines for what ports sent at the last event, with the configuration after that event
 abbrev pub sent_text : Past → List ℕ

@@ -9,7 +9,6 @@ ghost use Rattle.lldp_program.specs.Trace.Items.{Item};
 ghost use Rattle.lldp_program.specs.Trace.Runs.{Failed};
 
 /// An input is cut at each LF and at no other octet. Octets after the last LF are a line too.
-#[tactic(auto, using(crate::proofs::ForLaws::Lines::cuts))]
 pub fn lf_alone_ends_lines()
     ensures { (input : List ℕ) → CutsLines input }
 {}

@@ -6,7 +6,7 @@ use Rattle.hex.specs.Hex.{encode_lower}
 use Rattle.lldp_pdu.specs.declared.fields.Caps.{Caps}
 use Rattle.lldp_pdu.specs.Capabilities.{caps_of}
 use Rattle.lldp_pdu.specs.ManagementAddress.{Address, address_of}
-use Rattle.lldp_text.specs.Text.{escaped}
+use Rattle.lldp_text.specs.Text.{escaped, most_text}
 use Rattle.lldp_text.specs.Addresses.{mac_text, ipv4_text, ipv6_text}
 use Rattle.lldp_text.specs.Identifier.{chassis_text, port_text}
 use Rattle.lldp_text.specs.Capabilities.{capabilities_text}
@@ -15,7 +15,7 @@ use Rattle.lldp_text.specs.KeptTlv.{tlv_text}
 
 -- A text has at most 255 octets, each from the space to the tilde.
 pub record IsText (text : List ℕ) : Type 0 where
-  pub most : length text ≤ 255
+  pub most : length text ≤ most_text
   pub printable : AllByRecursion (λ octet. (0x20 ≤ octet) × (octet ≤ 0x7e)) text
 
 -- How a text is written, from its first octet: a backslash is doubled, other octets from the space

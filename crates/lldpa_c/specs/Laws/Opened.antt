@@ -9,14 +9,17 @@ use Rattle.lldpa_c.specs.declared.options.LldpaOptions.{LldpaOptions}
 use Rattle.lldpa_c.specs.declared.options.LldpaText.{LldpaText}
 use Rattle.lldpa_c.specs.Opening.{asked, IsRead, Opens}
 use Rattle.lldpa_c.specs.Ticks.{neighbors_held}
+use Rattle.lldp_table.specs.Ranges.{most_neighbors}
+use Rattle.lldp_transmit.specs.Ranges.{most_credit_max, most_fast_init, most_reinit}
+use Rattle.lldp_engine.specs.Ranges.{most_ports}
 
 -- the four numbers in their ranges, and the number of a role
 pub record AreInRange (o : LldpaOptions) : Type 0 where
   pub role : o.role ≤ 2
-  pub max_neighbors : (1 ≤ o.max_neighbors) × (o.max_neighbors ≤ 128)
-  pub credit_max : (1 ≤ o.credit_max) × (o.credit_max ≤ 10)
-  pub fast_init : (1 ≤ o.fast_init) × (o.fast_init ≤ 8)
-  pub reinit : (1 ≤ o.reinit) × (o.reinit ≤ 10)
+  pub max_neighbors : (1 ≤ o.max_neighbors) × (o.max_neighbors ≤ most_neighbors)
+  pub credit_max : (1 ≤ o.credit_max) × (o.credit_max ≤ most_credit_max)
+  pub fast_init : (1 ≤ o.fast_init) × (o.fast_init ≤ most_fast_init)
+  pub reinit : (1 ≤ o.reinit) × (o.reinit ≤ most_reinit)
 
 -- Options are read if their numbers are in range and their texts are ASCII, and only if their
 -- numbers are in range. They are not read if the hostname or one of the first 65 names is the octet
@@ -42,5 +45,5 @@ pub record OpensInOrder (o : LldpaOptions) (before : LldpaAgent) (answer : ℕ) 
   pub range : before.is_open ≡ false → ¬ (AreInRange o) → (answer ≡ 100) × (after.is_open ≡ false)
   pub text : before.is_open ≡ false → o.hostname.octets.now ≡ 255 ∷ [] → (answer ≡ 100) × (after.is_open ≡ false)
   pub none : before.is_open ≡ false → AreRead o → o.ports.now ≡ [] → (answer ≡ 22) × (after.is_open ≡ false)
-  pub many : before.is_open ≡ false → AreRead o → 64 < length o.ports.now → (answer ≡ 23) × (after.is_open ≡ false)
+  pub many : before.is_open ≡ false → AreRead o → most_ports < length o.ports.now → (answer ≡ 23) × (after.is_open ≡ false)
   pub success : answer ≡ 0 → (before.is_open ≡ false) × (after.is_open ≡ true) × (names_of after.held.agent ≡ map (λ text. text.octets.now) o.ports.now)

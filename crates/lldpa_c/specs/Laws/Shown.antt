@@ -12,7 +12,7 @@ use Rattle.lldp_engine.specs.declared.port.counters.Counters.{Counters}
 use Rattle.lldp_engine.specs.AgentState.{AgentState, PortState, IsPort, names_of}
 use Rattle.lldp_engine.specs.Frames.{frame_of}
 use Rattle.lldp_engine.specs.Keys.{port_key, neighbor_key, number_lines}
-use Rattle.lldp_engine.specs.NeighborLines.{neighbor_lines, kept_line, count_lines, numbered_lines, port_lines}
+use Rattle.lldp_engine.specs.NeighborLines.{neighbor_lines, count_lines, numbered_lines, port_lines}
 use Rattle.lldp_engine.specs.ConfigurationLines.{configuration_lines}
 use Rattle.lldp_engine.specs.ChassisLines.{chassis_lines, management_lines}
 use Rattle.lldp_engine.specs.StatisticsLines.{counter_lines}
@@ -31,6 +31,7 @@ use Rattle.lldpa_c.specs.Frame.{has_no_port, Writes}
 use Rattle.lldpa_c.specs.Held.{neighbors_at}
 use Rattle.lldpa_c.specs.Reading.{ReadsNeighborCount, ReadsStatistics, ReadsConfiguration, ReadsChassis, ReadsNeighbor}
 use Rattle.lldpa_c.specs.Values.{tlv_value}
+use Rattle.lldp_engine.specs.Code.ShownValue.{kept_line}
 
 -- the word of a status that C receives as a number
 abbrev pub word_numbered : ℕ → List ℕ

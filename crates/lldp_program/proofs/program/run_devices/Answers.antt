@@ -1,4 +1,3 @@
-use Rattle.std.proofs.Common.{rules, arith}
 use Rattle.lldp_program.proofs.Statuses.{run_kept, failed_end, flushed_end}
 use Rattle.lldp_program.proofs.program.run_devices.Goals as goal
 
@@ -7,7 +6,6 @@ returns-in-Err-clause-ran g c =
     record {
       result = c.run_trace-ran.result;
       run = run_kept _ _ _ _ _ _ _ _ c.run_trace-ran.ensures.run c.flush-flushed.ensures.octets;
-      done = λ e. absurd (omega (arith, c.tell.ensures.status));
       flushed = c.flush-flushed.result;
       ended = failed_end _ _ _ _ _ _ c.in-Err.is c.tell.ensures.status c.tell.ensures.told;
     }
@@ -17,7 +15,6 @@ returns-in-Ok-clause-ran g c =
     record {
       result = c.run_trace-ran.result;
       run = run_kept _ _ _ _ _ _ _ _ c.run_trace-ran.ensures.run c.flush-flushed.ensures.octets;
-      done = λ e. search rules;
       flushed = c.flush-flushed.result;
       ended = flushed_end _ _ _ _ _ _ c.in-Ok.is c.is_ok.ensures.value c.finish.ensures.well c.finish.ensures.failed;
     }

@@ -1,12 +1,12 @@
 use Rattle.std.proofs.Common.{◌≡◌, ℕ, Ok, Err, [], ◌++◌, take, drop, rules, arith, refl, ap, ◌∙◌, inl, inr, length-append, length-take, length-drop}
 use Rattle.lldp_program.specs.declared.device.DeviceFault.TheVariants.{Failed}
-use Rattle.lldp_program.specs.Trace.Lines.{unfinished}
 use Rattle.lldp_program.proofs.Texts.Written.{consumes_then, consumes_kept, consumes_nothing}
 use Rattle.lldp_program.proofs.Lines.Pieces.{held_more}
-use Rattle.lldp_program.proofs.Runs.Piece.{same_run, held_and_piece, held_no_lf, consumes_end, piece_ends, last_ends}
+use Rattle.lldp_program.proofs.Runs.Piece.{ended_with, same_run, held_and_piece, held_no_lf, consumes_end, piece_ends, last_ends}
 use Rattle.lldp_program.proofs.Runs.Joined.{done_none}
 use Rattle.lldp_program.proofs.Runs.KeepsOn.{done_keeps_on, stopped_keeps_on}
 use Rattle.lldp_program.proofs.trace.run_trace.Goals as goal
+use Rattle.lldp_program.specs.Code.Pieces.{unfinished}
 
 pub loop-reads-init : goal.loop-reads-init
 loop-reads-init g c = record {
@@ -41,7 +41,7 @@ returns-in_default-clause-run g c =
       input = so_far.input;
       consumed = consumes_kept _ _ _ so_far.input so_far.consumed c.in_default.ensures.octets;
       read = tt;
-      ends = so_far.done;
+      ends = λ past stands. ended_with {T = Unit {0}} (Ok tt) past _ _ _ so_far.input (so_far.done past stands);
     }
 
 pub returns-in-Ok-rest-clause-run : goal.returns-in-Ok-rest-clause-run
@@ -80,7 +80,7 @@ returns-in_default-lines-clause-run g c =
       consumed = consumes_then _ _ _ so_far.input piece so_far.consumed c.in-Ok.ensures.octets.0;
       read = tt;
       ends = λ past stands. let done = so_far.done past stands in
-          inl (piece_ends {T = ℕ} (Err Failed) past _ _ _ _ so_far.input piece _ (held_and_piece c.loop-reads.buffer c.read_more.new.buffer c.loop-reads.held c.in-Ok.n (unfinished so_far.input) c.read_more.ensures.kept so_far.front) done.written (c.in_default-lines.ensures.run.items_run.ended _ done.stands));
+          inl (ended_with {T = ℕ} (Err Failed) past _ _ _ (so_far.input ++ piece) (piece_ends {T = ℕ} (Err Failed) past _ _ _ _ so_far.input piece _ (held_and_piece c.loop-reads.buffer c.read_more.new.buffer c.loop-reads.held c.in-Ok.n (unfinished so_far.input) c.read_more.ensures.kept so_far.front) done.written (c.in_default-lines.ensures.run.items_run.ended _ done.stands)));
     }
 
 pub returns-clause-run : goal.returns-clause-run
@@ -90,7 +90,7 @@ returns-clause-run g c =
       input = so_far.input;
       consumed = so_far.consumed;
       read = omega (arith, so_far.many);
-      ends = so_far.done;
+      ends = λ past stands. ended_with {T = Unit {0}} (Ok tt) past _ _ _ so_far.input (so_far.done past stands);
     }
 
 pub loop-reads-preserved : goal.loop-reads-preserved

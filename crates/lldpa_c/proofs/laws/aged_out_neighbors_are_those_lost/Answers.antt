@@ -17,7 +17,7 @@ use Rattle.lldp_engine.specs.AgentState.{AgentState, PortState}
 use Rattle.lldp_engine.specs.Event.{tick}
 use Rattle.lldp_engine.specs.Past.{Past, past_of}
 use Rattle.lldp_engine.specs.Standing.{Stands}
-use Rattle.lldp_engine.specs.Port.Event.{each_port, tick as port_tick}
+use Rattle.lldp_engine.specs.Port.Event.{tick as port_tick}
 use Rattle.lldp_engine.specs.Port.Past.{calls_after}
 use Rattle.lldp_engine.specs.Code.PortStep.{port_step}
 use Rattle.lldp_engine.specs.Code.Step.{ports_step, agent_after}
@@ -30,6 +30,7 @@ use Rattle.lldpa_c.specs.Ticks.{Takes, LastDid, ticked, with_ticks, held_by}
 use Rattle.lldpa_c.proofs.Dueness.{stands_ticked, quiet_ticks}
 use Rattle.lldpa_c.proofs.Holding.{get_of}
 use Rattle.lldpa_c.proofs.laws.aged_out_neighbors_are_those_lost.Goals as goal
+use Rattle.lldp_engine.specs.Code.Whose.{each_port}
 
 -- ---- a second
 

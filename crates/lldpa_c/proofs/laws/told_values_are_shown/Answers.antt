@@ -17,10 +17,9 @@ use Rattle.lldp_engine.specs.Keys.{port_key, neighbor_key, number_lines}
 use Rattle.lldp_engine.specs.declared.port.status.Status.TheVariants.{RxAndTx, RxOnly, TxOnly, Disabled}
 use Rattle.lldp_engine.specs.AgentState.{AgentState, PortState, names_of, name_of}
 use Rattle.lldp_engine.specs.ConfigurationLines.{status_text, status_line}
-use Rattle.lldp_engine.specs.ChassisLines.{role_text}
 use Rattle.lldp_engine.specs.declared.agent.options.Role.{Role}
 use Rattle.lldp_engine.specs.declared.agent.options.Role.TheVariants.{Station, Bridge, Router}
-use Rattle.lldp_engine.specs.Frames.{frame_of}
+use Rattle.lldp_engine.specs.Frames.{frame_of, capabilities_of}
 use Rattle.lldpa_c.specs.Bodies.{caps_told, address_told}
 use Rattle.lldpa_c.specs.Held.{neighbors_at}
 use Rattle.lldpa_c.specs.Settings.{status_number}
@@ -29,6 +28,7 @@ use Rattle.lldpa_c.specs.Values.{may_write}
 use Rattle.lldpa_c.specs.Laws.Shown.{word_numbered, statuses_told, role_worded, counters_told}
 use Rattle.lldpa_c.proofs.Holding.{held_at}
 use Rattle.lldpa_c.proofs.laws.told_values_are_shown.Goals as goal
+use Rattle.lldp_text.specs.Capabilities.{capabilities_text}
 
 -- ---- statuses
 
@@ -47,7 +47,7 @@ lines_are : (ports : List PortState) → statuses_told (map (λ port. port.name)
 lines_are [] = refl
 lines_are (port ∷ ports) = rw (line_is port, lines_are ports) refl
 
-role_is : (role : Role) → role_worded (role_number role) ≡ role_text role
+role_is : (role : Role) → role_worded (role_number role) ≡ capabilities_text (caps_fields (capabilities_of role))
 role_is Station = refl
 role_is Bridge = refl
 role_is Router = refl

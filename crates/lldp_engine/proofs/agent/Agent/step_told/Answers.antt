@@ -9,18 +9,18 @@ use Rattle.lldp_engine.specs.Frames.{IsSent}
 use Rattle.lldp_engine.specs.Past.{with_event}
 use Rattle.lldp_engine.specs.Sound.{AreSound}
 use Rattle.lldp_engine.specs.Standing.{Stands}
-use Rattle.lldp_engine.specs.Port.Event.{whose}
 use Rattle.lldp_engine.specs.Code.Step.{agent_after, agent_marks, ports_step}
 use Rattle.lldp_engine.proofs.OnePort.Allowed.{configured-capacity}
 use Rattle.lldp_engine.proofs.Headline.Promise.{have_sent_exactly}
 use Rattle.lldp_engine.proofs.Headline.Answered.{promised_step}
-use Rattle.lldp_engine.proofs.OnePort.Heard.{octets_for}
+use Rattle.lldp_engine.proofs.OnePort.Heard.{octets_of_port}
 use Rattle.lldp_engine.specs.Told.{told_of}
 use Rattle.lldp_engine.proofs.AllPorts.Telling.{told_truly}
 use Rattle.lldp_engine.proofs.AllPorts.Sound.{AllSound, can_take, stay_sound, ports_number}
 use Rattle.lldp_engine.proofs.Standing.Carrying.{carries, marks_carry}
 use Rattle.lldp_engine.proofs.Standing.Step.{allowed_short, steps_to, marks_to, marks_sent}
 use Rattle.lldp_engine.proofs.agent.Agent.step_told.Goals as goal
+use Rattle.lldp_engine.specs.Code.Whose.{whose}
 
 pub take-requires : goal.take-requires
 take-requires g c = allowed_short c.args.self.now (event_of c.args.event) c.requires
@@ -80,7 +80,7 @@ invariant_of-self g c =
     let room : c.self.inside.configuration.capacity ≡ c.take.new.self.capacity = sym (configured-capacity e c.self.inside.configuration) ∙ ap (λ x. x.capacity) (sym c.take.ensures) in (
       subst (λ (k : ℕ). AreSound k (with_items c.self.inside.ports c.take_event.new.ports).items) room
           (stay_sound c.self.inside.configuration.capacity (whose e) c.interval-interval.result c.self.inside.ports.items _ (is ∙ (rw c.whose.ensures.value at c.take_event.ensures.after) ∙ ap (ports_step (whose e) c.interval-interval.result 0) c.as_mut_slice.ensures.value)
-          (λ k. octets_for k e c.whose.ensures.octets) (can_take _ e allowed c.self.invariant.0.sound) c.self.invariant.0),
+          (λ k. octets_of_port k e c.whose.ensures.octets) (can_take _ e allowed c.self.invariant.0.sound) c.self.invariant.0),
       λ some. absurd (omega (arith, some)),
     )
 

@@ -1,9 +1,9 @@
 use Rattle.std.proofs.Common.{◌≡◌, ◌≤◌, length, take}
-use Rattle.lldp_engine.specs.Port.Event.{each_port}
 use Rattle.lldp_engine.specs.Port.EventView.{port_event_of}
 use Rattle.lldp_engine.specs.Code.Step.{marks_step}
 use Rattle.lldp_engine.proofs.AllPorts.EachPort.{so_far}
 use Rattle.lldp_engine.proofs.agent.ports.each_takes.Given as goal
+use Rattle.lldp_engine.specs.Code.Whose.{each_port}
 
 -- The ports before this one have handled the event, and `marks` lists what they send.
 abbrev pub invariant-loop-i : goal.invariant-loop-i

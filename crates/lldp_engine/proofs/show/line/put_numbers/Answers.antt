@@ -1,7 +1,6 @@
 use Rattle.std.proofs.Common.{◌≡◌, refl, arith, take}
 use Rattle.std.proofs.lemmas.List.{take_all}
-use Rattle.lldp_engine.specs.Keys.{number_line}
-use Rattle.lldp_engine.specs.Code.ShownValue.{plain_number}
+use Rattle.lldp_engine.specs.Code.ShownValue.{plain_number, number_line}
 use Rattle.lldp_engine.proofs.Lines.Taken.{takes_none, takes_next_line, map_twice}
 use Rattle.lldp_engine.proofs.show.line.put_numbers.Goals as goal
 

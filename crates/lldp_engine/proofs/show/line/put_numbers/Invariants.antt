@@ -1,6 +1,5 @@
 use Rattle.std.proofs.Common.{take, map}
-use Rattle.lldp_engine.specs.Keys.{number_line}
-use Rattle.lldp_engine.specs.Code.ShownValue.{plain_number}
+use Rattle.lldp_engine.specs.Code.ShownValue.{plain_number, number_line}
 use Rattle.lldp_engine.specs.Takes.{Takes}
 use Rattle.lldp_engine.proofs.show.line.put_numbers.Given as goal
 

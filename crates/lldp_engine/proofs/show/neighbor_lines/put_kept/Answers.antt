@@ -1,8 +1,8 @@
 use Rattle.std.proofs.Common.{List, [], ◌∷◌, ap, rules, map}
 use Rattle.lldp_pdu.specs.Tlv.{TlvUnit}
-use Rattle.lldp_engine.specs.NeighborLines.{kept_line}
 use Rattle.lldp_engine.proofs.Lines.Taken.{takes_none, takes_line, takes_more}
 use Rattle.lldp_engine.proofs.show.neighbor_lines.put_kept.Goals as goal
+use Rattle.lldp_engine.specs.Code.ShownValue.{kept_line}
 
 pub loop-tlv-init : goal.loop-tlv-init
 loop-tlv-init g c = record {

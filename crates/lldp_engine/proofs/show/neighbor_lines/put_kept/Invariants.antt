@@ -1,9 +1,9 @@
 use Rattle.std.proofs.Common.{map}
 use Rattle.std.specs.List.{AllByRecursion}
 use Rattle.lldp_pdu.specs.Kept.{IsKeptTlv}
-use Rattle.lldp_engine.specs.NeighborLines.{kept_line}
 use Rattle.lldp_engine.proofs.Lines.Taken.{TakesTo}
 use Rattle.lldp_engine.proofs.show.neighbor_lines.put_kept.Given as goal
+use Rattle.lldp_engine.specs.Code.ShownValue.{kept_line}
 
 -- The sink has taken all lines except those of the remaining TLVs.
 abbrev pub invariant-loop-tlv : goal.invariant-loop-tlv

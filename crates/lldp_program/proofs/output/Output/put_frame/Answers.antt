@@ -1,9 +1,9 @@
 use Rattle.std.proofs.Common.{sym, ◌∙◌}
 use Rattle.hex.specs.Hex.{encode_lower}
-use Rattle.lldp_program.specs.Trace.Sent.{sent_line}
 use Rattle.lldp_program.proofs.Texts.Taken.{puts_then, puts_waiting, puts_no_more}
 use Rattle.lldp_program.proofs.Texts.Sent.{sent_waits}
 use Rattle.lldp_program.proofs.output.Output.put_frame.Goals as goal
+use Rattle.lldp_program.specs.Code.Output.{sent_line}
 
 pub returns-then-is_ok : goal.returns-then-is_ok
 returns-then-is_ok g c =

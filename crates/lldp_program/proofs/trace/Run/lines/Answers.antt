@@ -1,24 +1,24 @@
 use Rattle.std.proofs.Common.{◌≡◌, ◌-◌, ◌++◌, List, [], ℕ, take, arith, refl, sym, ap, ◌∙◌, length-take, length-drop}
 use Rattle.std.proofs.lemmas.List.{append-nil, take_rest}
 use Rattle.std.proofs.lemmas.Result.{err_from_is_err_and}
-use Rattle.lldp_program.specs.Trace.Lines.{ended_lines}
 use Rattle.lldp_program.specs.Trace.Items.{items_of_lines}
 use Rattle.lldp_program.proofs.Lines.Pieces.{all_lines, front_left, no_lf-unfinished, no_lf_left, none_behind, one_more_line, the_rest}
 use Rattle.lldp_program.proofs.Runs.Joined.{done_as, later_items, next_items, nothing_runs, runs_cut_off, runs_then}
 use Rattle.lldp_program.proofs.trace.Run.lines.Goals as goal
+use Rattle.lldp_program.specs.Code.Pieces.{pieces}
 
 pub returns-in_default-clause-rest : goal.returns-in_default-clause-rest
 returns-in_default-clause-rest g c =
     let xs : List ℕ = take c.args.held c.args.buffer.now in
     let all : c.args.searched - 0 ≡ c.args.searched = omega arith in
-    let none : ended_lines xs ≡ [] = no_lf_left xs 0 c.args.searched (omega arith) (rw all c.requires.no_line) (rw (front_left c.args.buffer.now c.args.searched c.args.held c.requires.within) at c.in_default.ensures) in
+    let none : pieces xs ≡ [] = no_lf_left xs 0 c.args.searched (omega arith) (rw all c.requires.no_line) (rw (front_left c.args.buffer.now c.args.searched c.args.held c.requires.within) at c.in_default.ensures) in
     (omega arith, sym (no_lf-unfinished xs none))
 
 pub returns-in_default-clause-run : goal.returns-in_default-clause-run
 returns-in_default-clause-run g c =
     let xs : List ℕ = take c.args.held c.args.buffer.now in
     let all : c.args.searched - 0 ≡ c.args.searched = omega arith in
-    let none : ended_lines xs ≡ [] = no_lf_left xs 0 c.args.searched (omega arith) (rw all c.requires.no_line) (rw (front_left c.args.buffer.now c.args.searched c.args.held c.requires.within) at c.in_default.ensures) in
+    let none : pieces xs ≡ [] = no_lf_left xs 0 c.args.searched (omega arith) (rw all c.requires.no_line) (rw (front_left c.args.buffer.now c.args.searched c.args.held c.requires.within) at c.in_default.ensures) in
     record { agent = refl; items_run = nothing_runs _ _ _ _ (λ past. ap (items_of_lines past) none) }
 
 pub ended-init : goal.ended-init
@@ -75,7 +75,7 @@ returns-in_default-2-clause-run g c =
     let inv = c.ended.invariant in
     let left = ap (take (c.args.held - start)) (take_rest c.args.buffer.now start) ∙ front_left c.args.buffer.now start c.args.held inv.high in
     let none = rw left at (rw c.in_default-2.is at c.in_ok-end.ensures.none) in
-    let all = all_lines xs start inv.whole none ∙ sym (append-nil (ended_lines (take start xs))) ∙ ap (λ ls. ended_lines (take start xs) ++ take 1 ls) (sym none) in
+    let all = all_lines xs start inv.whole none ∙ sym (append-nil (pieces (take start xs))) ∙ ap (λ ls. pieces (take start xs) ++ take 1 ls) (sym none) in
     record {
       agent = c.in_ok-end.ensures.run.agent ∙ inv.run.agent;
       items_run = runs_then _ _ _ _ _ _ _ _ _ _ tt (λ past. next_items past xs _ start _ left all) inv.run.items_run (done_as _ _ _ _ _ _ _ c.in_ok-end.ensures.run.items_run);

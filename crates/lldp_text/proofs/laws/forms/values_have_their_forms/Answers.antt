@@ -9,13 +9,14 @@ use Rattle.lldp_pdu.specs.declared.fields.Caps.{Caps}
 use Rattle.lldp_pdu.specs.Capabilities.{caps_fields, caps_of}
 use Rattle.lldp_pdu.specs.ManagementAddress.{Address, address_fields, address_of}
 use Rattle.lldp_text.specs.Text.{escaped}
-use Rattle.lldp_text.specs.Capabilities.{capability_bits, is_set, capability_text, capabilities_text}
+use Rattle.lldp_text.specs.Capabilities.{is_set, capability_text, capabilities_text}
 use Rattle.lldp_text.specs.ManagementAddress.{management_text}
 use Rattle.lldp_text.specs.Identifier.{chassis_text, port_text}
 use Rattle.lldp_text.specs.KeptTlv.{tlv_text}
 use Rattle.lldp_text.specs.Laws.Forms.{IsJoined, IsManaged, IsIdentified, HasKeys}
 use Rattle.lldp_text.proofs.laws.forms.values_have_their_forms.Goals as goal
 use Rattle.std.proofs.lemmas.Grind.{common_steps}
+use Rattle.lldp_text.proofs.CapabilitiesWritten.{capability_bits}
 
 -- ---- texts and addresses
 
