@@ -98,7 +98,7 @@ fn neighbors_that_aged_out_are_told() {
 fn settings_have_no_show() {
     let mut agent = opened(2);
     assert_eq!(agent.command("show chassis").expect("a show").show, Some(Show::Chassis));
-    assert_eq!(agent.command("configure lldp tx-interval 3600").expect("a setting").show, None);
+    assert_eq!(agent.command("configure lldp tx-interval 600").expect("a setting").show, None);
     assert_eq!(agent.tick().len(), 8);
     let left = agent.leave();
     assert!(left.len() == 8 && left.iter().all(|sent| sent.mark == Mark::Shutdown));

@@ -32,7 +32,7 @@ configure\tlldp tx-hold 101
 ACCEPTED = """\
 # a comment
 
-configure lldp tx-interval 3600\r
+configure lldp tx-interval 600\r
   configure lldp  max-neighbors\t32
 configure ports eth0 lldp status rx-only
 configure system description "a b"

@@ -185,7 +185,7 @@ static void try_many_seconds(void)
         holds(is_so && told.aged_out == 0 && marks.count == 0, "many seconds");
     }
     holds(lldpa_due(&quiet, &seconds) == LLDPA_OK && seconds == LLDPA_NEVER, "nothing is due");
-    static const char *const settings[] = {"configure lldp tx-interval 3600", "update", "configure lldp tx-hold 1"};
+    static const char *const settings[] = {"configure lldp tx-interval 600", "update", "configure lldp tx-hold 1"};
     for (size_t at = 0; at < sizeof settings / sizeof *settings; at++) {
         uint32_t show = 7;
         uint8_t answer = lldpa_command(&quiet, (const uint8_t *)settings[at], strlen(settings[at]), &show, &marks);
