@@ -5,6 +5,7 @@ ghost use Rattle.lldp_transmit.specs.Code.Machine.{stepped};
 ghost use Rattle.lldp_transmit.specs.History.{settings, event};
 ghost use Rattle.lldp_transmit.specs.Moments.{mark_at};
 ghost use Rattle.lldp_transmit.specs.Standing.{AreSettings, Stands as MachineStands, ForEachHistory};
+ghost use Rattle.lldp_transmit.specs.Windows.{IsBoundedWith, StopsRarelyWith, IsEarliestWith};
 ghost use Rattle.lldp_transmit.specs.declared.event.Mark.{Mark};
 ghost use Rattle.lldp_engine.specs.Ranges.{most_interval};
 
@@ -29,6 +30,9 @@ fn happens(machine: &mut Parts, cause: Cause, interval: u16) -> Mark
     ensures answer { result ≡ (stepped machine.old cause interval).1 }
     ensures stands { ForEachHistory machine.old (λ s past. MachineStands s (event cause interval ∷ past) machine.new) }
     ensures mark { ForEachHistory machine.old (λ s past. result ≡ mark_at s (event cause interval ∷ past)) }
+    ensures bounded { ForEachHistory machine.old (λ s past. IsBoundedWith s past (event cause interval) (stepped machine.old cause interval).1) }
+    ensures few_stops { ForEachHistory machine.old (λ s past. StopsRarelyWith s past (event cause interval) (stepped machine.old cause interval).1) }
+    ensures earliest { ForEachHistory machine.old (λ s past. IsEarliestWith s past (event cause interval) (stepped machine.old cause interval).1) }
 {
     let number = match cause {
         Cause::Tick => 0,

@@ -25,6 +25,7 @@ fn opens(alloc: Global, options: &LldpaOptions<'_>, agent: &mut LldpaAgent) -> u
     ensures fault { agent.old.is_open ≡ false → IsRead options.now → (fault : OpenFault) → fault_of (asked options.now) ≡ Some fault →
         (result ≡ refusal_number fault) × (agent.new.is_open ≡ false) }
     ensures others { agent.old.is_open ≡ false → IsRead options.now → fault_of (asked options.now) ≡ None → (result ≡ 0) ⊎ (result ≡ 21) }
+    ensures closed { agent.old.is_open ≡ false → ¬ (result ≡ 0) → agent.new.is_open ≡ false }
 {
     lldpa_open(alloc, options, agent)
 }

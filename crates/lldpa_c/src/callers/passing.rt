@@ -173,6 +173,7 @@ fn seconds(
         (take marks.new.count marks.new.items ≡ map numbered (marks_of (with_ticks (suc n) past)))
         × PromisedStep (with_ticks n past) tick (agent_marks tick (ticked n agent.old.held.agent)) agent.new.held.agent
         × HaveSentExactly (with_ticks (suc n) past) }
+    ensures closed { agent.old.is_open ≡ false → (result ≡ 102) × (agent.new.is_open ≡ false) × (marks.new ≡ marks.old) × (told.new ≡ told.old) }
 {
     lldpa_ticks(alloc, agent, count, marks, told)
 }

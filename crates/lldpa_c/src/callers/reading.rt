@@ -89,6 +89,8 @@ fn management(body: &[u8]) -> Option<Mgmt<'_>>
     };
     if !lldpa_mgmt(body, &mut told) {
         prove!(told.interface == 1 && told.family == 2 && told.numbering == 3);
+        prove!(told.address.start == 7 && told.address.length == 9);
+        prove!(told.oid.start == 7 && told.oid.length == 9);
         return None;
     }
     Some(Mgmt {

@@ -30,6 +30,10 @@ fn lines(
     ensures fits { agent.old.is_open ≡ true → slice_get (lines_of show agent.old.held.agent) from ≡ None → result ≡ 0 }
     ensures closed { agent.old.is_open ≡ false → (result ≡ 102) × (agent.new.is_open ≡ false) × (room.new ≡ room.old) × (told.new ≡ told.old) }
     ensures kept { agent.old.is_open ≡ true → (agent.new.is_open ≡ true) × (agent.new.held.agent ≡ agent.old.held.agent) }
+    ensures first_over { agent.old.is_open ≡ true → (line : List ℕ) → slice_get (lines_of show agent.old.held.agent) from ≡ Some line →
+        length room.old < length line + 1 → result ≡ 101 }
+    ensures first_fits { agent.old.is_open ≡ true → (line : List ℕ) → slice_get (lines_of show agent.old.held.agent) from ≡ Some line →
+        length line + 1 ≤ length room.old → result ≡ 0 }
     ensures refused { ¬ (result ≡ 0) → (room.new ≡ room.old) × (told.new ≡ told.old) }
 {
     let number = match show {
@@ -39,22 +43,6 @@ fn lines(
         Show::Configuration => 4,
     };
     lldpa_show_lines(alloc, agent, number, from, room, told)
-}
-
-/// Asks for lines of the neighbors.
-fn neighbor_lines(
-    alloc: Global,
-    agent: &mut LldpaAgent,
-    from: u32,
-    room: &mut [u8],
-    told: &mut LldpaLines,
-) -> u8
-    ensures over { agent.old.is_open ≡ true → (line : List ℕ) → slice_get (lines_of Neighbors agent.old.held.agent) from ≡ Some line →
-        length room.old < length line + 1 → (result ≡ 101) × (room.new ≡ room.old) × (told.new ≡ told.old) }
-    ensures fits { agent.old.is_open ≡ true → (line : List ℕ) → slice_get (lines_of Neighbors agent.old.held.agent) from ≡ Some line →
-        length line + 1 ≤ length room.old → result ≡ 0 }
-{
-    lldpa_show_lines(alloc, agent, 1, from, room, told)
 }
 
 /// Asks for a show that is none.

@@ -57,6 +57,7 @@ fn escape(text: &[u8], room: &mut [u8], written: &mut usize) -> u8
     ensures over { length text.now ≤ 511 → length room.old < length (escaped text.now) → (result ≡ 101) × (room.new ≡ room.old) × (written.new ≡ written.old) }
     ensures long { 511 < length text.now → (result ≡ 100) × (room.new ≡ room.old) × (written.new ≡ written.old) }
     ensures within { result ≡ 0 → (written.new ≤ length room.new) × (written.new ≤ 4 * length text.now) }
+    ensures rest { result ≡ 0 → drop written.new room.new ≡ drop written.new room.old }
 {
     lldpa_escape(text, room, written)
 }
