@@ -50,13 +50,15 @@ fn no_show(
     alloc: Global,
     agent: &mut LldpaAgent,
     show: u32,
+    from: u32,
     room: &mut [u8],
     told: &mut LldpaLines,
 ) -> u8
     requires { (show ≡ 0) ⊎ (5 ≤ show) }
-    ensures { (result ≡ 100) × (room.new ≡ room.old) × (told.new ≡ told.old) }
+    ensures answer { (result ≡ 100) × (room.new ≡ room.old) × (told.new ≡ told.old) }
+    ensures kept { (agent.new.is_open ≡ agent.old.is_open) × (agent.old.is_open ≡ true → agent.new.held.agent ≡ agent.old.held.agent) }
 {
-    lldpa_show_lines(alloc, agent, show, 0, room, told)
+    lldpa_show_lines(alloc, agent, show, from, room, told)
 }
 
 /// Returns octet `n` of all lines of the neighbors, which are read in pages of a room, or the number of an error.
