@@ -24,9 +24,9 @@ pub struct LldpaChassis {
     pub hostname_length: u8,
     pub description_length: u8,
     /// The system name, followed by zeros.
-    pub hostname: [u8; MOST_TEXT],
+    pub hostname: [u8; 255],
     /// The system description, followed by zeros.
-    pub description: [u8; MOST_TEXT],
+    pub description: [u8; 255],
 }
 
 /// Returns the number of a role.

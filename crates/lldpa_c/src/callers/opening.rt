@@ -9,6 +9,8 @@ ghost use Rattle.lldp_engine.specs.declared.agent.open_fault.OpenFault.{OpenFaul
 ghost use Rattle.lldp_engine.specs.declared.agent.options.Role.TheVariants.{Station};
 ghost use Rattle.lldpa_c.specs.Faults.{refusal_number};
 ghost use Rattle.lldpa_c.specs.Opening.{asked, IsRead};
+ghost use Rattle.lldp_table.specs.Ranges.{most_neighbors};
+ghost use Rattle.lldp_transmit.specs.Ranges.{most_credit_max, most_fast_init, most_reinit};
 
 use crate::agent::lldpa_close;
 use crate::holder::LldpaAgent;
@@ -37,10 +39,10 @@ fn open_station(alloc: Global, options: &LldpaOptions<'_>, agent: &mut LldpaAgen
     requires managed { options.now.managed ≡ true }
     requires names { All (λ text. IsUtf8 text.octets.now) (take 65 options.now.ports.now) }
     requires hostname { IsUtf8 options.now.hostname.octets.now }
-    requires neighbors { (1 ≤ options.now.max_neighbors) × (options.now.max_neighbors ≤ 128) }
-    requires credit { (1 ≤ options.now.credit_max) × (options.now.credit_max ≤ 10) }
-    requires fast { (1 ≤ options.now.fast_init) × (options.now.fast_init ≤ 8) }
-    requires wait { (1 ≤ options.now.reinit) × (options.now.reinit ≤ 10) }
+    requires neighbors { (1 ≤ options.now.max_neighbors) × (options.now.max_neighbors ≤ most_neighbors) }
+    requires credit { (1 ≤ options.now.credit_max) × (options.now.credit_max ≤ most_credit_max) }
+    requires fast { (1 ≤ options.now.fast_init) × (options.now.fast_init ≤ most_fast_init) }
+    requires wait { (1 ≤ options.now.reinit) × (options.now.reinit ≤ most_reinit) }
     ensures value { result ≡ 0 → (agent.new.is_open ≡ true) × Stands (opened (record {
       names = map (λ text. text.octets.now) options.now.ports.now;
       mac = options.now.mac;
