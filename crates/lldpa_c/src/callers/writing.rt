@@ -32,7 +32,9 @@ fn description(fault: u32, room: &mut [u8], written: &mut usize) -> u8
     ensures over { (words : List ℕ) → words_of fault ≡ Some words → length room.old < length words →
         (result ≡ 101) × (room.new ≡ room.old) × (written.new ≡ written.old) }
     ensures none { words_of fault ≡ None → (result ≡ 100) × (room.new ≡ room.old) × (written.new ≡ written.old) }
-    ensures rest { result ≡ 0 → (written.new ≤ length room.new) × (written.new ≤ 65) × (drop written.new room.new ≡ drop written.new room.old) }
+    ensures within { result ≡ 0 → written.new ≤ length room.new }
+    ensures short { result ≡ 0 → written.new ≤ 65 }
+    ensures rest { result ≡ 0 → drop written.new room.new ≡ drop written.new room.old }
 {
     lldpa_fault_text(fault, room, written)
 }
@@ -56,7 +58,8 @@ fn escape(text: &[u8], room: &mut [u8], written: &mut usize) -> u8
     ensures value { length text.now ≤ 511 → length (escaped text.now) ≤ length room.old → (result ≡ 0) × (take written.new room.new ≡ escaped text.now) }
     ensures over { length text.now ≤ 511 → length room.old < length (escaped text.now) → (result ≡ 101) × (room.new ≡ room.old) × (written.new ≡ written.old) }
     ensures long { 511 < length text.now → (result ≡ 100) × (room.new ≡ room.old) × (written.new ≡ written.old) }
-    ensures within { result ≡ 0 → (written.new ≤ length room.new) × (written.new ≤ 4 * length text.now) }
+    ensures within { result ≡ 0 → written.new ≤ length room.new }
+    ensures short { result ≡ 0 → written.new ≤ 4 * length text.now }
     ensures rest { result ≡ 0 → drop written.new room.new ≡ drop written.new room.old }
 {
     lldpa_escape(text, room, written)
@@ -84,7 +87,9 @@ fn tlv(kind: u32, body: &[u8], room: &mut [u8], written: &mut usize) -> u8
     ensures over { (text : List ℕ) → tlv_value kind body.now ≡ Some text → length room.old < length text →
         (result ≡ 101) × (room.new ≡ room.old) × (written.new ≡ written.old) }
     ensures none { tlv_value kind body.now ≡ None → (result ≡ 100) × (room.new ≡ room.old) × (written.new ≡ written.old) }
-    ensures rest { result ≡ 0 → (written.new ≤ length room.new) × (written.new ≤ 1058) × (drop written.new room.new ≡ drop written.new room.old) }
+    ensures within { result ≡ 0 → written.new ≤ length room.new }
+    ensures short { result ≡ 0 → written.new ≤ 1058 }
+    ensures rest { result ≡ 0 → drop written.new room.new ≡ drop written.new room.old }
 {
     lldpa_tlv_text(kind, body, room, written)
 }
