@@ -1,5 +1,5 @@
 //! Reads LLDPDUs and bodies of TLVs through the exported functions, as lldp_pdu does.
-ghost use Rattle.std.specs.Prelude.{◌≡◌, ◌≤◌, ◌<◌, true, false, Some, None, length, take, slice_get, ◌+◌, ◌∷◌, []};
+ghost use Rattle.std.specs.Prelude.{◌≡◌, IsSome, ◌≤◌, ◌<◌, true, false, Some, None, length, take, slice_get, ◌+◌, ◌∷◌, []};
 ghost use Rattle.std.specs.Option.{option_map, option_copied};
 ghost use Rattle.lldp_pdu.specs.Fault.{fault_of};
 ghost use Rattle.lldp_pdu.specs.Capabilities.{caps_of};
@@ -11,6 +11,7 @@ ghost use Rattle.lldp_pdu.specs.Lldpdu.{extent, ttl_of, msap_of};
 ghost use Rattle.lldp_pdu.specs.ManagementAddress.{address_of};
 ghost use Rattle.lldp_pdu.specs.View.{address_view, tlv_view};
 ghost use Rattle.lldp_pdu.specs.declared.fault.PduFault.{PduFault};
+ghost use Rattle.lldp_pdu.specs.declared.fields.Caps.{Caps as CapsFields};
 ghost use Rattle.lldpa_c.specs.Place.{octets_at};
 ghost use Rattle.lldpa_c.specs.Walk.{IsExtent, left_of};
 
@@ -70,6 +71,15 @@ fn capabilities(body: &[u8]) -> Option<Caps>
         prove!(told.available == 7 && told.enabled == 9);
         None
     }
+}
+
+/// Reads the fields of capabilities.
+fn fields(body: &[u8], told: &mut LldpaCapabilities) -> bool
+    ensures some { result ≡ true → (c : CapsFields) → caps_of body.now ≡ Some c → (told.new.available ≡ c.available) × (told.new.enabled ≡ c.enabled) }
+    ensures is_some { result ≡ true → IsSome (caps_of body.now) }
+    ensures none { result ≡ false → caps_of body.now ≡ None }
+{
+    lldpa_caps(body, told)
 }
 
 /// Reads a management address, as `mgmt` of lldp_pdu does.
