@@ -130,6 +130,7 @@ class TestLinks(OnLinks):
         self.wires.set_link("ethX", "name", "eth0")
         self.wires.set_link("eth0", "up")
         live.comes_to("live.eth0.link=up")
+        self.assertTrue(eventually(self.wires.all_up))
         self.becomes_neighbor(live, numbered(2), peer)
 
     def test_frames_of_a_link_that_went_and_came_meanwhile_count(self) -> None:
