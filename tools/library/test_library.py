@@ -4,8 +4,8 @@
 
 Programs of tools/library/c run with the library, most with the compiler's sanitizers. vectors.c
 runs the rows of examples/vectors.rows, and reads cut and altered LLDPDUs. transcript.c runs the
-transcripts of examples/ and long shows. nulls.c passes NULL for each pointer, and values out of
-range. ranges.c tries the ends of ranges, small buffers, random octets, long lists and long waits.
+transcripts of examples/ and long shows. nulls.c passes NULL for each pointer, and handles that are not
+open. ranges.c tries texts that were worked out by hand, small buffers and random octets.
 pause.c lets an example pause for a day. refused.c refuses memory to the library. With `-k` a part runs
 alone, such as `-k check_front`.
 

@@ -1,7 +1,7 @@
 /*
- * Calls each function of the library with NULL for each pointer, with handles that are not
- * open, and with numbers, ports and buffers that are out of range, also two of these at once. A
- * call must report the first and write nothing. NULL with a length of 0 means no octets, no TLVs,
+ * Calls each function of the library with NULL for each pointer, with handles that are not open and
+ * with ports that an agent does not have, also two of these at once. A call must report the first
+ * and write nothing. NULL with a length of 0 means no octets, no TLVs,
  * no ports or no buffer. tools/library/library_front.py makes nulls.rows of lldpa.h.
  *     nulls
  * Failed checks are reported; the last line is `N passed, M failed`.
@@ -63,23 +63,6 @@ static int is_as_before(void)
         answer = (call);                                                                                               \
         holds(answer == (wanted) && is_as_before(), #call);                                                            \
     } while (0);
-
-/* Checks that a frame may have any source address, but no other change of its header. */
-static void read_headers(void)
-{
-    for (size_t at = 0; at < 14; at++) {
-        uint8_t other[sizeof frame];
-        lldpa_place place = {0, 0};
-        memcpy(other, frame, sizeof frame);
-        holds(lldpa_frame_pdu(other, sizeof other, &place) && place.start == 14 && place.length == sizeof other - 14,
-              "the LLDPDU of a frame");
-        other[at] ^= 1;
-        holds(lldpa_frame_pdu(other, sizeof other, &place) == (at >= 6 && at < 12), "a frame with another header");
-    }
-    begin();
-    holds(lldpa_examine(frame + 14, sizeof frame - 14, &now.examined) == LLDPA_OK && now.examined.chassis.start == 2 &&
-              now.examined.port.start == 11, "the places of the identifiers");
-}
 
 /* Calls lldpa_build with the identifiers of the frame and with these other arguments. */
 static uint8_t built(const lldpa_tlv *tlvs, size_t count, uint8_t *faults, size_t fault_count, uint8_t *room,
@@ -150,19 +133,11 @@ static void build_empty_bodies(void)
 
 static void build_badly(void)
 {
-    static const uint8_t identifier[257] = {4};
-    static const size_t lengths[] = {0, 1, 257};
     uint8_t *room = now.room;
     BUILDS(ANSWERS)
     begin();
     holds(built(NULL, 0, NULL, 0, room, 1500, &now.length) == LLDPA_OK && now.length == 22, "no TLVs, by NULL");
     ANSWERS(LLDPA_NO_ROOM, built(NULL, 0, NULL, 0, room, 21, &now.length));
-    for (size_t at = 0; at < 3; at++) {
-        ANSWERS(LLDPA_OUT_OF_RANGE,
-                lldpa_build(identifier, lengths[at], frame, 5, 120, NULL, 0, NULL, 0, room, 1500, &now.length));
-        ANSWERS(LLDPA_OUT_OF_RANGE,
-                lldpa_build(frame, 7, identifier, lengths[at], 120, NULL, 0, NULL, 0, room, 1500, &now.length));
-    }
     build_empty_bodies();
 }
 
@@ -173,32 +148,9 @@ static void build_badly(void)
         holds(lldpa_open(options, &handle) == (wanted) && !handle.open, #options " " #wanted);                         \
     } while (0)
 
-static void open_numbers(lldpa_options options)
-{
-    uint32_t *numbers[] = {&options.max_neighbors, &options.credit_max, &options.fast_init, &options.reinit};
-    static const uint8_t most[] = {128, 10, 8, 10};
-    for (size_t at = 0; at < 4; at++) {
-        uint32_t right = *numbers[at];
-        const uint32_t wrong[] = {0, most[at] + 1u, 256 + right};
-        for (size_t which = 0; which < 3; which++) {
-            *numbers[at] = wrong[which];
-            REFUSES(&options, LLDPA_OUT_OF_RANGE);
-        }
-        *numbers[at] = right;
-    }
-    options.role = 3;
-    REFUSES(&options, LLDPA_OUT_OF_RANGE);
-    options.role = LLDPA_ROUTER;
-    options.hostname = (lldpa_text){(const uint8_t *)"\xff", 1};
-    REFUSES(&options, LLDPA_OUT_OF_RANGE);
-}
-
-/* Options with two errors each, and the one that lldpa.h names first. NO_UTF8 is also no text that an agent accepts. */
+/* Options with two errors each, and the one that lldpa.h names first. The law checks_are_in_order has the order of those
+ * without NULL. */
 #define GOOD {(const uint8_t *)"eth0", 4}
-#define OTHER {(const uint8_t *)"eth1", 4}
-#define DOT {(const uint8_t *)"a.b", 3}
-#define NO_UTF8 {(const uint8_t *)"\xff", 1}
-#define NO_TEXT {(const uint8_t *)"\n", 1}
 #define MISSING {NULL, 1}
 static const struct {
     const char *what;
@@ -216,28 +168,6 @@ static const struct {
      sizeof(lldpa_options), {MISSING}, 1, GOOD, 3, 2, LLDPA_NULL},
     {"a number out of range, and a hostname that is missing",
      sizeof(lldpa_options), {GOOD}, 1, MISSING, 0, 129, LLDPA_NULL},
-    {"a role that is none, and no port",
-     sizeof(lldpa_options), {GOOD}, 0, GOOD, 3, 2, LLDPA_OUT_OF_RANGE},
-    {"a number out of range, and too many ports",
-     sizeof(lldpa_options), {GOOD}, 66, GOOD, 0, 0, LLDPA_OUT_OF_RANGE},
-    {"a hostname that is not UTF-8, and no port",
-     sizeof(lldpa_options), {GOOD}, 0, NO_UTF8, 0, 2, LLDPA_OUT_OF_RANGE},
-    {"a name that is not UTF-8 behind one that is not valid",
-     sizeof(lldpa_options), {DOT, NO_UTF8}, 2, GOOD, 0, 2, LLDPA_OUT_OF_RANGE},
-    {"names that are not UTF-8, and too many",
-     sizeof(lldpa_options), {NO_UTF8}, 66, GOOD, 0, 2, LLDPA_OUT_OF_RANGE},
-    {"no port, and a hostname that is not printable",
-     sizeof(lldpa_options), {GOOD}, 0, NO_TEXT, 0, 2, LLDPA_NO_PORTS},
-    {"too many ports with names that are not valid",
-     sizeof(lldpa_options), {DOT}, 66, GOOD, 0, 2, LLDPA_TOO_MANY_PORTS},
-    {"too many ports, and a hostname that is not printable",
-     sizeof(lldpa_options), {GOOD}, 66, NO_TEXT, 0, 2, LLDPA_TOO_MANY_PORTS},
-    {"names that are not valid and the same",
-     sizeof(lldpa_options), {DOT, DOT}, 2, GOOD, 0, 2, LLDPA_PORT_NAME},
-    {"a name that is not valid, and a hostname that is not printable",
-     sizeof(lldpa_options), {DOT, OTHER}, 2, NO_TEXT, 0, 2, LLDPA_PORT_NAME},
-    {"names that are the same, and a hostname that is not printable",
-     sizeof(lldpa_options), {GOOD, GOOD}, 2, NO_TEXT, 0, 2, LLDPA_SAME_PORT},
 };
 
 static void open_doubly(void)
@@ -288,7 +218,6 @@ static void open_nulls(void)
     options.size = sizeof options;
     options.ports = names;
     options.port_count = 1;
-    open_numbers(options);
     open_doubly();
     holds(lldpa_open(&options, &agent) == LLDPA_OK, "an agent");
     ANSWERS(LLDPA_IS_OPEN, lldpa_open(&options, &agent));
@@ -298,23 +227,6 @@ static void open_nulls(void)
     ANSWERS(LLDPA_NULL, lldpa_open(&options, &agent));
     options.size--;
     ANSWERS(LLDPA_OUT_OF_RANGE, lldpa_open(&options, &agent));
-}
-
-/* Uses marks and shows that do not exist, and buffers that are one octet too small. */
-static void use_badly(void)
-{
-    uint8_t *room = now.room;
-    for (uint32_t mark = 0; mark < 256; mark += 3) { /* neither LLDPA_ORDINARY nor LLDPA_SHUTDOWN */
-        ANSWERS(LLDPA_OUT_OF_RANGE, lldpa_frame_of(&agent, 0, mark, room, 1514, &now.length));
-        ANSWERS(LLDPA_OUT_OF_RANGE, lldpa_show_lines(&agent, mark == 0 ? 0 : mark + 2, 0, room, 1514, &now.lines));
-    }
-    ANSWERS(LLDPA_NO_ROOM, lldpa_frame_of(&agent, 0, LLDPA_ORDINARY, room, 56, &now.length));
-    ANSWERS(LLDPA_NO_ROOM, lldpa_show_lines(&agent, LLDPA_SHOW_CHASSIS, 3, room, 29, &now.lines));
-    holds(lldpa_frame_of(&agent, 0, LLDPA_ORDINARY, room, 57, &now.length) == LLDPA_OK, "a frame of 57 octets");
-    holds(lldpa_show_lines(&agent, LLDPA_SHOW_CHASSIS, 9, room, 0, &now.lines) == LLDPA_OK && now.lines.done &&
-              now.lines.length == 0 && now.lines.next == 9, "lines after the last");
-    holds(lldpa_show_lines(&agent, LLDPA_SHOW_CHASSIS, 1, room, 1514, &now.lines) == LLDPA_OK && now.lines.done &&
-              now.lines.next == 4, "the end of a show");
 }
 
 static size_t shown(uint8_t *room, size_t length)
@@ -333,7 +245,6 @@ int main(void)
 {
     static uint8_t first[8192], last[8192];
     READS(ANSWERS)
-    read_headers();
     build_badly();
     open_nulls();
     size_t length = shown(first, sizeof first);
@@ -342,7 +253,6 @@ int main(void)
     holds(lldpa_escape(NULL, 0, NULL, 0, &now.length) == LLDPA_OK && now.length == 0, "no octets, escaped");
     lldpa_close(&closed);
     holds(!closed.open, "a handle is open after it was closed");
-    use_badly();
     holds(shown(last, sizeof last) == length && memcmp(first, last, length) == 0, "the agent has changed");
     begin();
     holds(lldpa_frame(&agent, 0, NULL, 0, &now.marks, NULL) == LLDPA_OK, "no octets as a frame");
