@@ -26,6 +26,7 @@ class TestLaterPorts(OnLinks):
                          "waiting for an interface: lan* !lan7 lan9")
         first = self.made(1, "lan")
         self.assertTrue(eventually(live.ask_quietly))
+        self.assertTrue(eventually(self.wires.all_up))
         first.send(numbered(1, 500))
         self.assertTrue(eventually(lambda: live.neighbors("lan1") == 1))
         self.assertEqual(live.ask("configure ports lan1 lldp status rx-only"), [])
@@ -33,6 +34,7 @@ class TestLaterPorts(OnLinks):
         self.made(7, "lan")
         second = self.made(2, "lan")
         live.comes_to("live.lan2.link=up")
+        self.assertTrue(eventually(self.wires.all_up))
         second.send(numbered(2, 500))
         self.assertTrue(eventually(lambda: live.neighbors("lan2") == 1))
         self.assertIsNotNone(second.hears(5))
@@ -68,6 +70,7 @@ class TestLaterPorts(OnLinks):
     def test_one_that_finds_no_place_is_told_and_taken_when_another_goes(self) -> None:
         guests = [self.made(number) for number in range(MOST - 1)]
         live = self.live("eth0", "vnet*", "--", "--receive-only")
+        self.assertTrue(eventually(self.wires.all_up))
         guests[7].send(numbered(7, 500))
         self.assertTrue(eventually(lambda: live.neighbors("vnet7") == 1))
         self.assertEqual(live.number("ports-refused"), 0)
@@ -77,6 +80,7 @@ class TestLaterPorts(OnLinks):
         self.assertEqual(live.number("ports-refused"), 1)
         self.wires.remove_link("vnet3")
         live.comes_to(f"live.vnet{MOST}.link=up")
+        self.assertTrue(eventually(self.wires.all_up))
         late.send(numbered(1))
         self.assertTrue(eventually(lambda: live.neighbors(f"vnet{MOST}") == 1))
         self.assertEqual((live.number("ports-refused"), live.neighbors("vnet7")), (0, 1))
