@@ -18,14 +18,16 @@ import re
 from library_parts import FRONT, TOP, WARNINGS, Counts, Library, fault_of, write_front
 
 ABI = TOP / "tools" / "library" / "abi"
-CRATE = TOP / "crates" / "lldpa_c" / "src"
+CRATES = TOP / "crates"
+CRATE = CRATES / "lldpa_c" / "src"
 # The structs of other crates that C reads.
-OTHERS = (TOP / "crates" / "lldp_transmit" / "src" / "parts.rt",
-          TOP / "crates" / "lldp_engine" / "src" / "port" / "counters.rt")
+OTHERS = (CRATES / "lldp_transmit" / "src" / "parts.rt", CRATES / "lldp_engine" / "src" / "port" / "counters.rt")
 # Each release whose header differs from the one before, and the digest of its header and its program.
 # What was released cannot change.
 RELEASES = {"1.0.0": "c16ace189436fdb64a751a60d3c5ff170d0c4d241903095a6a9603715d53b822"}
 GROWS = ("lldpa_options", "LLDPA_OPTIONS_INIT")
+# The numbers that fields of Rattle have by name.
+LIMITS = dict(re.findall(r"const (\w+): usize = (\d+);", "".join(file.read_text() for file in CRATES.glob("*/src/**/*.rt"))))
 
 # How the header may grow: at the end of lldpa_options, by a function with a struct of its own, by numbers. Each text is
 # in the header once.
@@ -101,9 +103,9 @@ def of_rust(declaration: str) -> list[str]:
         return [pointer, "usize"]
     if declaration.startswith(("*", "&")):
         return [pointer]
-    array = re.fullmatch(r"\[(\w+); (\d+)\]", declaration)
+    array = re.fullmatch(r"\[(\w+); (\w+)\]", declaration)
     if array:
-        return [f"[{plain(array[1])}; {array[2]}]"]
+        return [f"[{plain(array[1])}; {LIMITS.get(array[2], array[2])}]"]
     return {"Global": [], "Held": ["pointer"], "LldpaText<'a>": ["text"]}.get(declaration, [plain(declaration)])
 
 

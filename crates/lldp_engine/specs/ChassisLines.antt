@@ -7,14 +7,11 @@ use Rattle.lldp_pdu.specs.Capabilities.{caps_fields}
 use Rattle.lldp_text.specs.Capabilities.{capabilities_text}
 use Rattle.lldp_engine.specs.Frames.{capabilities_of}
 
--- The text of an address, then 1 (interface numbering unknown), interface number 0, and no OID.
-abbrev pub own_address_text : List ℕ → List ℕ
-own_address_text address = ipv4_text address ++ codes ",1,0,"
-
--- Returns the line of the management address, if there is one.
+-- Returns the line of the management address, if there is one: the address, 1 (interface numbering unknown), interface
+-- number 0, and no OID.
 abbrev pub management_lines : Option (List ℕ) → List (List ℕ)
 management_lines None = []
-management_lines (Some address) = (codes "local-chassis.mgmt=" ++ own_address_text address) ∷ []
+management_lines (Some address) = (codes "local-chassis.mgmt=" ++ ipv4_text address ++ codes ",1,0,") ∷ []
 
 -- Returns the lines: MAC address, system name, description, capabilities, any management address.
 abbrev pub chassis_lines : Configuration → List (List ℕ)

@@ -2,7 +2,7 @@
 use Rattle.std.specs.Prelude.{ℕ, ◌+◌, ◌*◌, min, List, Option, codes}
 use Rattle.lldp_engine.specs.declared.agent.options.Role.{Role}
 use Rattle.lldp_engine.specs.Options.{Options}
-use Rattle.lldp_engine.specs.Ranges.{first_interval}
+use Rattle.lldp_engine.specs.Ranges.{first_interval, most_ttl}
 use Rattle.lldp_engine.specs.Event.{Event, set, Setting, hostname, description, interval, hold, limit, status, update}
 
 -- The options fix the values up to `capacity`. Commands change the others: the two texts,
@@ -56,4 +56,4 @@ configured event c = c
 
 -- The TTL of an ordinary frame (txTTL) is tx-interval times tx-hold, plus 1, at most 65,535.
 abbrev pub sent_ttl : Configuration → ℕ
-sent_ttl c = min 65535 (c.interval * c.hold + 1)
+sent_ttl c = min most_ttl (c.interval * c.hold + 1)

@@ -2,13 +2,14 @@
 use Rattle.std.specs.Prelude.{◌≡◌, ℕ, ◌+◌, ◌≤◌, List, ◌++◌, length, Option, Some, None}
 use Rattle.std.specs.Borrow.{Fml, RattleType, MutBor, LendsSo}
 use Rattle.lldp_text.specs.contracts.writing.Writer.{the_row as writer_row}
+use Rattle.lldp_text.specs.declared.writing.TheConstants.{LINE_ROOM}
 use Rattle.lldp_text.specs.Text.{ended}
 
 -- The sink takes the line appended to the lent writer, at most 2,049 octets with its line feed.
 abbrev pub TakesWritten : {S : Type 0} → (S → S → List ℕ → Type 0) → S → Option (MutBor (List ℕ)) → S → List ℕ → Type 0
 TakesWritten takes old lent new text =
     (writer : MutBor (List ℕ)) (line : List ℕ) → lent ≡ Some writer → text ≡ writer.now ++ ended line
-    → length text ≤ length writer.now + 2049 → takes old new line
+    → length text ≤ length writer.now + LINE_ROOM → takes old new line
 
 -- A sink that lends no writer takes any line.
 abbrev pub TakesAny : {S : Type 0} → (S → S → List ℕ → Type 0) → S → Option (MutBor (List ℕ)) → S → Type 0

@@ -1,5 +1,5 @@
 -- The lines of `show neighbors`.
-use Rattle.std.specs.Prelude.{ℕ, ◌+◌, nat_lt, if◌then◌else◌, Bool, List, [], ◌∷◌, ◌++◌, length, map, codes, decimal, sum_by}
+use Rattle.std.specs.Prelude.{ℕ, ◌+◌, nat_lt, if◌then◌else◌, List, [], ◌∷◌, ◌++◌, length, map, codes, decimal, sum_by}
 use Rattle.std.specs.List.{flat_map}
 use Rattle.lldp_pdu.specs.Kept.{kept_of}
 use Rattle.lldp_table.specs.Events.{Neighbor}
@@ -24,10 +24,6 @@ numbered_lines name number [] = []
 numbered_lines name number (neighbor ∷ others) =
     neighbor_lines name number neighbor ++ numbered_lines name (number + 1) others
 
--- A condition is shown as `yes` or `no`.
-abbrev pub yes_or_no : Bool → List ℕ
-yes_or_no condition = if condition then codes "yes" else codes "no"
-
 -- The first three lines of a port: how many neighbors it holds, the sum of their stored octets, and
 -- whether there are too many neighbors (the timer of that condition is not 0).
 abbrev pub count_lines : PortState → List (List ℕ)
@@ -35,7 +31,7 @@ count_lines port =
     (port_key port.name ++ (codes "neighbors=" ++ decimal (length port.table.neighbors)))
     ∷ (port_key port.name
     ++ (codes "octets=" ++ decimal (sum_by (λ neighbor. length neighbor.octets) port.table.neighbors)))
-    ∷ (port_key port.name ++ (codes "too-many=" ++ yes_or_no (nat_lt 0 port.table.too_many_left))) ∷ []
+    ∷ (port_key port.name ++ (codes "too-many=" ++ (if nat_lt 0 port.table.too_many_left then codes "yes" else codes "no"))) ∷ []
 
 -- The lines of a port: the first three, then those of each neighbor, numbered in table order.
 abbrev pub port_lines : PortState → List (List ℕ)

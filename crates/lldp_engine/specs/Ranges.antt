@@ -1,4 +1,5 @@
--- The first and the greatest numbers of settings, and the most ports and octets of a name. A law ties the constants of the code to these.
+-- The first and the greatest numbers of settings, the greatest TTL, and the most ports and octets of a name. A law ties
+-- the constants of the code to these.
 use Rattle.std.specs.Prelude.{ℕ}
 
 -- the tx-interval at opening, in seconds
@@ -12,6 +13,10 @@ most_interval = 3600
 -- the greatest tx-hold
 abbrev pub most_hold : ℕ
 most_hold = 100
+
+-- the greatest TTL of a frame, in seconds
+abbrev pub most_ttl : ℕ
+most_ttl = 65535
 
 -- the most ports of an agent
 abbrev pub most_ports : ℕ

@@ -32,7 +32,7 @@ use Rattle.std.proofs.lemmas.Grind.{common_steps}
 
 optional_tlvs : (us : List TlvUnit) → AllByRecursion IsKeptTlv us → AllByRecursion IsTlv us
 optional_tlvs [] h = tt
-optional_tlvs (u ∷ us) h = (record { kind = omega (arith, h.0.greatest); body = h.0.short }, optional_tlvs us h.1)
+optional_tlvs (u ∷ us) h = (record { kind = omega (arith, h.0.greatest); body = omega (arith, h.0.short) }, optional_tlvs us h.1)
 
 draft_tlvs : (d : Draft) → IsDraft d → AllByRecursion IsTlv (all_tlvs d)
 draft_tlvs d h = grind (arith, common_steps, optional_tlvs)

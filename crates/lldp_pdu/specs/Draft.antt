@@ -7,7 +7,7 @@ use Rattle.lldp_pdu.specs.declared.fault.BuildFault.TheVariants.{Full, Kind, Bod
 use Rattle.lldp_pdu.specs.Check.{Check, first_fault}
 use Rattle.lldp_pdu.specs.Tlv.{TlvUnit, spelling, spellings}
 use Rattle.lldp_pdu.specs.TlvType.{end_of_lldpdu_type, chassis_id_type, port_id_type, time_to_live_type, port_description_type, organizationally_specific_type}
-use Rattle.lldp_pdu.specs.Range.{is_between, most_octets}
+use Rattle.lldp_pdu.specs.Range.{is_between, most_body, most_octets}
 use Rattle.lldp_pdu.specs.WellFormed.{is_well_formed}
 use Rattle.lldp_pdu.specs.Msap.{MsapId, IsIdentifier}
 use Rattle.lldp_pdu.specs.Fault.{fault_of}
@@ -53,7 +53,7 @@ put_checks d u =
           || (is_single u.kind && was_put u.kind d.tlvs);
       fault = Kind;
     }
-    ∷ record { fails = nat_lt 511 (length u.body) || not (is_well_formed u); fault = Body }
+    ∷ record { fails = nat_lt most_body (length u.body) || not (is_well_formed u); fault = Body }
     ∷ record { fails = nat_lt most_octets (length (lldpdu_octets (with_tlv d u))); fault = Full }
     ∷ []
 
@@ -67,7 +67,7 @@ pub record CanPut (d : Draft) (u : TlvUnit) : Type 0 where
   pub greatest : u.kind ≤ organizationally_specific_type
   pub lives : 0 < d.ttl
   pub new : (is_single u.kind && was_put u.kind d.tlvs) ≡ false
-  pub short : length u.body ≤ 511
+  pub short : length u.body ≤ most_body
   pub well_formed : is_well_formed u ≡ true
   pub room : length (spellings (all_tlvs d)) + length u.body + 4 ≤ most_octets
 

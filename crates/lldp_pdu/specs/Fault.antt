@@ -4,7 +4,7 @@ use Rattle.std.specs.List.{list_any}
 use Rattle.lldp_pdu.specs.declared.fault.PduFault.{PduFault}
 use Rattle.lldp_pdu.specs.declared.fault.PduFault.TheVariants.{Truncated, NoChassis, ChassisLength, NoPort, PortLength, NoTtl, TtlLength, Repeated}
 use Rattle.lldp_pdu.specs.Check.{Check, first_fault}
-use Rattle.lldp_pdu.specs.Range.{is_between}
+use Rattle.lldp_pdu.specs.Range.{is_between, most_identifier}
 use Rattle.lldp_pdu.specs.Tlv.{TlvUnit}
 use Rattle.lldp_pdu.specs.TlvType.{chassis_id_type, port_id_type, time_to_live_type}
 use Rattle.lldp_pdu.specs.Cut.{cut}
@@ -19,10 +19,10 @@ abbrev pub checks : List TlvUnit → ℕ → List TlvUnit → List (Check PduFau
 checks us ttl later =
     record { fails = nat_le (length us) 0; fault = Truncated }
     ∷ record { fails = not ((tlv_at us 0).kind == chassis_id_type); fault = NoChassis }
-    ∷ record { fails = not (is_between 2 (length (tlv_at us 0).body) 256); fault = ChassisLength }
+    ∷ record { fails = not (is_between 2 (length (tlv_at us 0).body) most_identifier); fault = ChassisLength }
     ∷ record { fails = nat_le (length us) 1; fault = Truncated }
     ∷ record { fails = not ((tlv_at us 1).kind == port_id_type); fault = NoPort }
-    ∷ record { fails = not (is_between 2 (length (tlv_at us 1).body) 256); fault = PortLength }
+    ∷ record { fails = not (is_between 2 (length (tlv_at us 1).body) most_identifier); fault = PortLength }
     ∷ record { fails = nat_le (length us) 2; fault = Truncated }
     ∷ record { fails = not ((tlv_at us 2).kind == time_to_live_type); fault = NoTtl }
     ∷ record { fails = nat_lt (length (tlv_at us 2).body) 2; fault = TtlLength }

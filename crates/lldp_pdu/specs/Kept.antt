@@ -1,7 +1,7 @@
 -- Which TLVs of a sound LLDPDU with a TTL above 0 are kept (IEEE 802.1AB-2009, 9.2.7.7.2).
-use Rattle.std.specs.Prelude.{◌≡◌, ℕ, ◌+◌, ◌<◌, ◌≤◌, Bool, true, not, ◌&&◌, List, [], ◌∷◌, length, nat_le, ◌==◌, if◌then◌else◌}
+use Rattle.std.specs.Prelude.{◌≡◌, ℕ, ◌+◌, ◌≤◌, Bool, true, not, ◌&&◌, List, [], ◌∷◌, length, nat_le, ◌==◌, if◌then◌else◌}
 use Rattle.std.specs.List.{list_any, filter}
-use Rattle.lldp_pdu.specs.Range.{is_between}
+use Rattle.lldp_pdu.specs.Range.{is_between, most_body}
 use Rattle.lldp_pdu.specs.Tlv.{TlvUnit}
 use Rattle.lldp_pdu.specs.TlvType.{port_description_type, system_capabilities_type, first_reserved_type, organizationally_specific_type}
 use Rattle.lldp_pdu.specs.WellFormed.{is_well_formed}
@@ -47,5 +47,5 @@ count_unrecognized us = length (filter (λ u. nat_le first_reserved_type u.kind)
 pub record IsKeptTlv (u : TlvUnit) : Type 0 where
   pub least : port_description_type ≤ u.kind
   pub greatest : u.kind ≤ organizationally_specific_type
-  pub short : length u.body < 512
+  pub short : length u.body ≤ most_body
   pub well_formed : is_well_formed u ≡ true

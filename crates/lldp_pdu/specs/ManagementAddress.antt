@@ -1,7 +1,7 @@
 -- The Management Address TLV (IEEE 802.1AB-2009, 8.5.9).
 use Rattle.std.specs.Prelude.{◌≡◌, ℕ, ◌+◌, ◌-◌, ◌<◌, ◌≤◌, ◌^◌, ◌&&◌, List, ◌∷◌, ◌++◌, length, take, drop, Option, Some, None, nat_le, ◌==◌, slice_index, if◌then◌else◌}
 use Rattle.std.specs.Int.{w32, from_be_bytes, to_be_bytes}
-use Rattle.lldp_pdu.specs.Range.{is_between}
+use Rattle.lldp_pdu.specs.Range.{is_between, most_address, most_oid}
 
 -- a management address: family, address, interface numbering subtype, interface number and OID
 pub record Address : Type 0 where
@@ -23,9 +23,9 @@ address_spelling a =
 -- The address has 1 to 31 octets, the interface number 32 bits, and the OID at most 128 octets.
 pub record IsAddress (a : Address) : Type 0 where
   pub least : 1 ≤ length a.address
-  pub greatest : length a.address ≤ 31
+  pub greatest : length a.address ≤ most_address
   pub interface : a.interface < 2 ^ 32
-  pub oid : length a.oid ≤ 128
+  pub oid : length a.oid ≤ most_oid
 
 -- the body encodes this address, which is in range
 pub record IsSpelled (body : List ℕ) (a : Address) : Type 0 where
@@ -50,5 +50,5 @@ abbrev pub address_of : List ℕ → Option Address
 address_of body =
     let m = slice_index body 0 in
     let o = slice_index body (m + 6) in
-    if is_between 2 m 32 && nat_le o 128 && (length body == m + o + 7)
+    if is_between 2 m (most_address + 1) && nat_le o most_oid && (length body == m + o + 7)
     then Some (address_fields body m) else None

@@ -8,6 +8,7 @@ ghost use Rattle.lldp_pdu.specs.WellFormed.{is_well_formed};
 ghost use Rattle.lldp_pdu.specs.View.{tlv_view, address_view};
 
 use crate::fields::{Caps, Mgmt};
+use crate::limits::{MOST_ADDRESS, MOST_IDENTIFIER, MOST_OID, MOST_TEXT};
 use crate::tlv::Tlv;
 use crate::tlv_type::{
     CHASSIS_ID, MANAGEMENT_ADDRESS, ORGANIZATIONALLY_SPECIFIC, PORT_DESCRIPTION, PORT_ID,
@@ -34,11 +35,11 @@ pub fn mgmt(body: &[u8]) -> Option<Mgmt<'_>>
     ensures { option_map address_view result ≡ address_of body.now }
 {
     let m = usize::from(*body.first()?);
-    if m < 2 || m > 32 {
+    if m < 2 || m > MOST_ADDRESS + 1 {
         return None;
     }
     let o = usize::from(*body.get(m + 6)?);
-    if o > 128 || body.len() != m + o + 7 {
+    if o > MOST_OID || body.len() != m + o + 7 {
         return None;
     }
     Some(Mgmt {
@@ -57,9 +58,9 @@ pub(crate) fn body_is_well_formed(tlv: &Tlv<'_>) -> bool
 {
     let len = tlv.body.len();
     match tlv.kind {
-        CHASSIS_ID | PORT_ID => (2..=256).contains(&len),
+        CHASSIS_ID | PORT_ID => (2..=MOST_IDENTIFIER).contains(&len),
         TIME_TO_LIVE => len >= 2,
-        PORT_DESCRIPTION..=SYSTEM_DESCRIPTION => len <= 255,
+        PORT_DESCRIPTION..=SYSTEM_DESCRIPTION => len <= MOST_TEXT,
         SYSTEM_CAPABILITIES => caps(tlv.body).is_some(),
         MANAGEMENT_ADDRESS => mgmt(tlv.body).is_some(),
         ORGANIZATIONALLY_SPECIFIC => len >= 4,

@@ -13,7 +13,7 @@ ghost use Rattle.lldp_pdu.specs.Draft.{end_of_lldpdu, with_tlv, put_fault, lldpd
 
 use crate::bodies::body_is_well_formed;
 use crate::fault::BuildFault;
-use crate::frame::MOST_OCTETS;
+use crate::limits::{MOST_BODY, MOST_OCTETS};
 use crate::seen::Seen;
 use crate::tlv::{Tlv, append_tlv};
 use crate::tlv_type::{
@@ -106,7 +106,7 @@ impl Builder {
         if self.met.has(tlv.kind) {
             return Some(BuildFault::Kind);
         }
-        if tlv.body.len() > 511 {
+        if tlv.body.len() > MOST_BODY {
             return Some(BuildFault::Body);
         }
         if !body_is_well_formed(tlv) {

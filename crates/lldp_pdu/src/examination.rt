@@ -13,6 +13,7 @@ ghost use Rattle.lldp_pdu.specs.Code.Survey.{OpensWith, IsSurveyOf};
 use crate::fault::PduFault;
 use crate::fields::Msap;
 use crate::info::Info;
+use crate::limits::MOST_IDENTIFIER;
 use crate::seen::Seen;
 use crate::tlv::Tlvs;
 use crate::tlv_type::{CHASSIS_ID, END_OF_LLDPDU, FIRST_RESERVED, PORT_ID, TIME_TO_LIVE};
@@ -53,7 +54,7 @@ fn mandatory_tlvs(pdu: &[u8]) -> Result<Mandatory<'_>, PduFault>
     if chassis.kind != CHASSIS_ID {
         return Err(PduFault::NoChassis);
     }
-    if chassis.body.len() < 2 || chassis.body.len() > 256 {
+    if chassis.body.len() < 2 || chassis.body.len() > MOST_IDENTIFIER {
         return Err(PduFault::ChassisLength);
     }
     let Some(port) = tlvs.next() else {
@@ -62,7 +63,7 @@ fn mandatory_tlvs(pdu: &[u8]) -> Result<Mandatory<'_>, PduFault>
     if port.kind != PORT_ID {
         return Err(PduFault::NoPort);
     }
-    if port.body.len() < 2 || port.body.len() > 256 {
+    if port.body.len() < 2 || port.body.len() > MOST_IDENTIFIER {
         return Err(PduFault::PortLength);
     }
     let Some(ttl) = tlvs.next() else {

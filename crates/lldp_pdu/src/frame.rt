@@ -4,8 +4,7 @@ ghost use Rattle.std.specs.Option.{option_copied};
 ghost use Rattle.lldp_pdu.specs.Frame.{lldpdu_of};
 ghost use Rattle.lldp_pdu.specs.Range.{most_octets};
 
-/// The maximum number of octets in an LLDPDU: the maximum payload of an Ethernet frame.
-pub const MOST_OCTETS: usize = 1500;
+use crate::limits::MOST_FRAME;
 
 /// The nearest bridge group address.
 const NEAREST_BRIDGE: [u8; 6] = [0x01, 0x80, 0xc2, 0x00, 0x00, 0x0e];
@@ -21,7 +20,7 @@ pub fn frame_pdu(frame: &[u8]) -> Option<&[u8]>
     ensures value { option_copied result ≡ lldpdu_of frame.now }
     ensures short { IfSome result (λ pdu. length pdu.now ≤ most_octets) }
 {
-    if frame.len() < 14 || frame.len() > 14 + MOST_OCTETS {
+    if frame.len() < 14 || frame.len() > MOST_FRAME {
         return None;
     }
     if !frame.starts_with(&NEAREST_BRIDGE) {

@@ -25,7 +25,7 @@ ghost use Rattle.lldp_pdu.specs.Laws.KeptOnce.{AreKeptOnce, AreCounted};
 ghost use Rattle.lldp_pdu.specs.Laws.PutFaults.{IsRefused};
 ghost use Rattle.lldp_pdu.specs.Laws.SoundForm.{IsSound, HasFaults};
 ghost use Rattle.lldp_pdu.specs.WellFormed.{is_well_formed};
-ghost use Rattle.lldp_pdu.specs.Range.{most_octets};
+ghost use Rattle.lldp_pdu.specs.Range.{most_octets, most_text};
 
 /// Each list of octets has exactly one cut into complete TLVs and a rest.
 #[tactic(auto, using(crate::proofs::Cuts::cut_is_cut, crate::proofs::Cuts::only_cut))]
@@ -139,7 +139,7 @@ pub fn types_decide_which_bodies_are_well_formed()
     ensures ttl { (body : List ℕ) →
         (is_well_formed (record { kind = 3; body = body }) ≡ true) ↔ 2 ≤ length body }
     ensures texts { (kind : ℕ) (body : List ℕ) → 4 ≤ kind → kind ≤ 6 →
-        (is_well_formed (record { kind = kind; body = body }) ≡ true) ↔ length body ≤ 255 }
+        (is_well_formed (record { kind = kind; body = body }) ≡ true) ↔ length body ≤ most_text }
     ensures capabilities { (body : List ℕ) → AreOctets body →
         (is_well_formed (record { kind = 7; body = body }) ≡ true)
         ↔ ((caps : Caps) × AreSpelled body caps) }

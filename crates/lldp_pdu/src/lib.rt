@@ -11,6 +11,7 @@ mod frame;
 mod info;
 mod kept;
 pub mod laws;
+mod limits;
 mod seen;
 mod tlv;
 pub mod tlv_type;
@@ -20,8 +21,11 @@ pub use builder::Builder;
 pub use examination::{Examined, examine};
 pub use fault::{BuildFault, PduFault};
 pub use fields::{Caps, Mgmt, Msap};
-pub use frame::{MOST_OCTETS, frame_pdu};
+pub use frame::frame_pdu;
 pub use info::Info;
 pub use kept::Kept;
+pub use limits::{
+    MOST_ADDRESS, MOST_BODY, MOST_FRAME, MOST_IDENTIFIER, MOST_OCTETS, MOST_OID, MOST_TEXT,
+};
 pub use seen::Seen;
 pub use tlv::{Tlv, Tlvs, append_tlv};

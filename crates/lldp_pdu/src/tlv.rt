@@ -4,6 +4,7 @@ ghost use Rattle.std.specs.Option.{option_map};
 ghost use Rattle.std.specs.Iterator.{item_count};
 ghost use Rattle.arrayvec.specs.ArrayVec.{array_vec_len};
 ghost use Rattle.lldp_pdu.specs.Cut.{first_tlv, cut};
+ghost use Rattle.lldp_pdu.specs.Range.{most_body};
 ghost use Rattle.lldp_pdu.specs.Tlv.{spelling};
 ghost use Rattle.lldp_pdu.specs.View.{tlv_view, GivesFirstTlv};
 
@@ -83,7 +84,7 @@ fn first(octets: &[u8]) -> Option<(Tlv<'_>, &[u8])>
 /// `drafts_are_read_back` covers such LLDPDUs.
 pub fn append_tlv<const N: usize>(octets: &mut ArrayVec<u8, N>, kind: u8, body: &[u8])
     requires kind { kind < 128 }
-    requires body { length body.now < 512 }
+    requires body { length body.now ≤ most_body }
     requires room { array_vec_len octets.old + 2 + length body.now ≤ N }
     ensures value { octets.new.items ≡ octets.old.items
         ++ spelling (record { kind = kind; body = body.now }) }

@@ -10,6 +10,7 @@ use Rattle.lldp_engine.specs.Options.{IsRefusal, Options, fault_of}
 use Rattle.lldp_engine.specs.Past.{opened}
 use Rattle.lldp_program.specs.Faults.ProgramFault.{ended_by}
 use Rattle.lldp_program.specs.Faults.Told.{EndsBy, EndsWellOr, IsTold, Stream}
+use Rattle.lldp_program.specs.Ranges.{most_reads}
 use Rattle.lldp_program.specs.Trace.Runs.{HasRun, HasRead, Ends}
 use Rattle.lldp_program.specs.CommandLine.Usage.{AskForHelp, Asks, HasBadAddress, IsParse, MayFail}
 use Rattle.lldp_program.specs.declared.device.DeviceFault.{DeviceFault}
@@ -30,7 +31,7 @@ pub record RanStreams (to_come left old new : Option (List ℕ)) (told_before to
 
 -- a read failed, or a write or flush failed, or the run made all the reads that it may make
 abbrev pub FailedBy : ℕ → ℕ → ℕ → Type 0
-FailedBy reads writes calls = 0 < reads ⊎ (0 < writes ⊎ 4294967295 ≤ calls)
+FailedBy reads writes calls = 0 < reads ⊎ (0 < writes ⊎ most_reads ≤ calls)
 
 -- An agent opened with these options ran the trace that was read, and the output was flushed, as in
 -- `RanStreams`.

@@ -1,12 +1,17 @@
 //! The program's arguments, and what they ask for.
-ghost use Rattle.std.specs.Prelude.{◌≡◌, ◌≤◌, ◌⊎◌, ℕ, List, IfOk, IfErr, Some, None, false, codes, map, option_map};
+ghost use Rattle.std.specs.Prelude.{◌≡◌, ◌≤◌, ◌⊎◌, ℕ, List, IfOk, IfErr, Some, None, false, codes, map, option_map, pos};
 ghost use Rattle.std.specs.Borrow.{Bor};
 ghost use Rattle.std.specs.Net.Grammar.{IsDotted};
 ghost use Rattle.clap.specs.Words.{app_of, first_value, found_of, kind_of, one_text, rows_of, rule_of};
+ghost use Rattle.clap.specs.Lexer.{usize_max};
+ghost use Rattle.clap.specs.Simple.{new_rule};
 ghost use Rattle.clap.specs.Walk.{byte_or_zero};
+ghost use Rattle.clap.specs.declared.builder.action.ArgAction.TheVariants.{SetTrue};
+ghost use Rattle.clap.specs.declared.builder.value_parser.ValueParser.TheVariants.{Signed};
 ghost use Rattle.clap.specs.declared.error.kind.ErrorKind.TheVariants as ErrorKind;
-ghost use Rattle.lldp_program.specs.CommandLine.Usage.{AreRoles, Asks, AsksListening, AsksManagement, HasBadAddress, IsBad, IsParse, WritesNumber, MayFail, listen_rule, number_rule, ports_rule, program, receive_only_rule, role_named, role_rule, text_rule, valued_rule};
+ghost use Rattle.lldp_program.specs.CommandLine.Usage.{AreRoles, Asks, AsksListening, AsksManagement, HasBadAddress, IsBad, IsParse, WritesNumber, MayFail, number_rule, program, role_named, role_rule, text_rule, valued_rule};
 ghost use Rattle.lldp_engine.specs.Options.{InRange, options_of};
+ghost use Rattle.lldp_program.specs.Ranges.{most_connections, most_tcp_port};
 ghost use Rattle.lldp_program.specs.CommandLine.Arguments.{GivesNumber, GivesText, IsProgramParse};
 
 use crate::addresses::{read_ipv4, read_mac};
@@ -15,6 +20,12 @@ use clap::{Arg, ArgAction, ArgMatches, Command, Error, value_parser};
 use lldp_engine::{MOST_CREDIT, MOST_FAST, MOST_NEIGHBORS, MOST_REINIT, Options, Role};
 use std::alloc::{AllocError, Global};
 use std::convert::AsStr;
+
+/// The greatest port of `--listen`.
+pub const MOST_TCP_PORT: u16 = 65535;
+
+/// The greatest number of `--connections`.
+pub const MOST_CONNECTIONS: u16 = 65535;
 
 const MAX_NEIGHBORS: &str = "max-neighbors";
 
@@ -122,7 +133,8 @@ fn role<'a>(alloc: Global) -> Arg<'a>
 }
 
 fn receive_only<'a>(alloc: Global) -> Arg<'a>
-    ensures { rule_of result ≡ receive_only_rule }
+    ensures { rule_of result
+        ≡ record (new_rule (codes "receive-only")) { long = Some (codes "receive-only"); action = Some SetTrue } }
 {
     Arg::new(alloc, RECEIVE_ONLY)
         .long(RECEIVE_ONLY)
@@ -131,17 +143,19 @@ fn receive_only<'a>(alloc: Global) -> Arg<'a>
 }
 
 fn listen<'a>(alloc: Global) -> Arg<'a>
-    ensures { rule_of result ≡ listen_rule }
+    ensures { rule_of result
+        ≡ record (valued_rule (codes "listen")) { parser = Some (Signed (pos 1) (pos most_tcp_port)) } }
 {
     Arg::new(alloc, LISTEN)
         .long(LISTEN)
         .value_name("PORT")
-        .value_parser(value_parser!(u16).range(1..=65535))
+        .value_parser(value_parser!(u16).range(1..=i64::from(MOST_TCP_PORT)))
         .help("Serve connections to this port of 127.0.0.1")
 }
 
 fn ports<'a>(alloc: Global) -> Arg<'a>
-    ensures { rule_of result ≡ ports_rule }
+    ensures { rule_of result
+        ≡ record (new_rule (codes "PORT")) { range = Some (record { start_inclusive = 0; end_inclusive = usize_max }) } }
 {
     Arg::new(alloc, PORT).num_args(0..).hide(true)
 }
@@ -203,7 +217,7 @@ fn command<'a>(alloc: Global) -> Result<Command<'a>, AllocError>
         ))?
         .arg(receive_only(alloc))?
         .arg(listen(alloc))?
-        .arg(number(alloc, CONNECTIONS, 65535, "1", CONNECTIONS_HELP))?
+        .arg(number(alloc, CONNECTIONS, MOST_CONNECTIONS, "1", CONNECTIONS_HELP))?
         .arg(ports(alloc))
 }
 
@@ -250,7 +264,7 @@ pub fn listening_of(matches: &ArgMatches<'_>) -> Option<Listening>
 }
 
 fn connections_of(matches: &ArgMatches<'_>) -> u16
-    requires given { GivesNumber 65535 (codes "connections") matches.now }
+    requires given { GivesNumber most_connections (codes "connections") matches.now }
     ensures { WritesNumber (one_text (found_of matches.now) (codes "connections")) result }
 {
     matches.get_one::<u16>(CONNECTIONS).unwrap()

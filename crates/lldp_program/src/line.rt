@@ -11,6 +11,8 @@ ghost use Rattle.lldp_program.specs.Code.Plain.{is_plain_octet, EndsAt};
 ghost use Rattle.lldp_program.specs.Ranges.{most_of_line};
 ghost use Rattle.std.specs.Result.{result_map_both};
 ghost use Rattle.lldp_program.specs.declared.line.LineFault.TheVariants.{Hex};
+ghost use Rattle.lldp_program.specs.declared.line.TheConstants.{FRAME_ROOM};
+ghost use Rattle.lldp_text.specs.declared.writing.TheConstants.{LINE_ROOM};
 
 use lldp_engine::{
     Agent, Command, CommandFault, Words, decode_digits, end_words, next_port, next_word, number,
@@ -20,6 +22,12 @@ use lldp_text::decode_line;
 
 /// The most octets that a line may have, without its LF.
 pub const LONGEST: usize = 4096;
+
+/// The most octets of a frame that a line can spell: each has two digits.
+pub const FRAME_ROOM: usize = LONGEST / 2;
+
+/// The most ticks that a line asks for.
+pub const MOST_TICKS: u16 = 65535;
 
 /// Why a line is refused.
 #[derive(Clone, Copy, Debug, PartialEq, Eq)]
@@ -72,7 +80,7 @@ impl LineFault {
     /// Returns the line that reports the fault, without LF.
     pub fn text(self) -> &'static [u8]
         ensures text { result.now ≡ fault_text self }
-        ensures short { length result.now ≤ 2048 }
+        ensures short { length result.now < LINE_ROOM }
     {
         match self {
             LineFault::TooLong => b"error: line too long",
@@ -104,7 +112,7 @@ fn read_tick<'l>(mut words: Words<'_>) -> Result<Work<'l>, LineFault>
     let Some(word) = words.next() else {
         return Ok(Work::Ticks(1));
     };
-    let ticks = number(word, 1, 65535)?;
+    let ticks = number(word, 1, MOST_TICKS)?;
     end_words(words)?;
     Ok(Work::Ticks(ticks))
 }
@@ -133,7 +141,7 @@ fn decode<'l>(digits: &[u8], room: &'l mut [u8]) -> Result<&'l [u8], LineFault>
 fn read_frame<'l>(
     agent: &Agent,
     mut words: Words<'_>,
-    room: &'l mut [u8; 2048],
+    room: &'l mut [u8; FRAME_ROOM],
 ) -> Result<Work<'l>, LineFault>
     requires { AllByRecursion (λ word. length word ≤ most_of_line) words }
     ensures read { on_ok work_of result ≡ frame_form agent.now words.entry }
@@ -199,11 +207,11 @@ pub struct FrameLine {
 /// Reads the line at the front of a text if it is `rx PORT HEX` with one space between words and
 /// no quotes, as most lines are. Writes the octets of the frame into `room`. Returns None for other
 /// lines, and if fewer than 32 octets follow; such lines are read word by word.
-pub fn frame_line(agent: &Agent, text: &[u8], room: &mut [u8; 2048]) -> Option<FrameLine>
+pub fn frame_line(agent: &Agent, text: &[u8], room: &mut [u8; FRAME_ROOM]) -> Option<FrameLine>
     ensures ends { IfSome result (λ x. EndsAt text.now x.end) }
     ensures reads { IfSome result (λ x. work_given agent.now (take x.end text.now)
         ≡ Ok (frame x.port (take x.count room.new))) }
-    ensures room { IfSome result (λ x. x.count ≤ 2048) }
+    ensures room { IfSome result (λ x. x.count ≤ FRAME_ROOM) }
     ensures exists { IfSome result (λ x. IsPort agent.now x.port) }
 {
     let rest = behind(text, b"rx ")?;
@@ -224,7 +232,7 @@ pub fn frame_line(agent: &Agent, text: &[u8], room: &mut [u8; 2048]) -> Option<F
 pub fn read_line<'l>(
     agent: &Agent,
     line: &'l [u8],
-    room: &'l mut [u8; 2048],
+    room: &'l mut [u8; FRAME_ROOM],
 ) -> Result<Work<'l>, LineFault>
     ensures read { on_ok work_of result ≡ work_given agent.now line.now }
     ensures allowed { IfOk result (λ work. AllowsWork agent.now (work_of work)) }

@@ -4,7 +4,8 @@ ghost use Rattle.std.specs.List.{flat_map, AllByRecursion};
 ghost use Rattle.lldp_engine.specs.AgentState.{names_of, IsPort};
 ghost use Rattle.lldp_engine.specs.Frames.{IsSent};
 ghost use Rattle.lldp_engine.specs.Lines.{lines_of};
-ghost use Rattle.lldp_text.specs.declared.writing.TheConstants.{ROOM};
+ghost use Rattle.lldp_pdu.specs.declared.limits.TheConstants.{MOST_FRAME};
+ghost use Rattle.lldp_text.specs.declared.writing.TheConstants.{LINE_ROOM, ROOM};
 ghost use Rattle.lldp_program.specs.Devices.Counts.{failures_after};
 ghost use Rattle.lldp_program.specs.Trace.Lines.{ended};
 ghost use Rattle.lldp_program.specs.Code.Output.{WrittenBy, Puts, Flushes, Writes, begun, sent_line};
@@ -108,7 +109,7 @@ impl<W: Sink> Output<'_, W> {
     /// Appends to the buffer the line for a frame that a port sends.
     fn put_frame(&mut self, name: &[u8], frame: &[u8])
         requires name { length name.now ≤ most_name }
-        requires frame { length frame.now ≤ 1514 }
+        requires frame { length frame.now ≤ MOST_FRAME }
         ensures { Between W.taken W.failures W.place self.old self.new
             (Puts (sent_line name.now frame.now)) }
     {
@@ -139,7 +140,7 @@ impl<W: Sink> Output<'_, W> {
 
     /// Appends a line and its LF to the buffer.
     fn put_line(&mut self, line: &[u8])
-        requires { length line.now ≤ 2048 }
+        requires { length line.now < LINE_ROOM }
         ensures { Between W.taken W.failures W.place self.old self.new (Puts (ended line.now)) }
     {
         let Some(text) = self.begin_line() else {
@@ -151,7 +152,7 @@ impl<W: Sink> Output<'_, W> {
 
     /// Writes a line and its LF.
     pub fn write_line(&mut self, line: &[u8]) -> Result<(), DeviceFault>
-        requires { length line.now ≤ 2048 }
+        requires { length line.now < LINE_ROOM }
         ensures { Between W.taken W.failures W.place self.old self.new
             (Writes (ended line.now) result) }
     {

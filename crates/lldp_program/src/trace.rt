@@ -5,17 +5,19 @@ ghost use Rattle.lldp_text.specs.Answer.{on_ok};
 ghost use Rattle.lldp_engine.specs.Event.{tick, frame, event_of};
 ghost use Rattle.lldp_engine.specs.Past.{Past};
 ghost use Rattle.lldp_engine.specs.Standing.{Stands};
+ghost use Rattle.lldp_program.specs.declared.line.TheConstants.{FRAME_ROOM};
 ghost use Rattle.lldp_program.specs.Faults.FaultNumber.{number_of_run_fault};
 ghost use Rattle.lldp_program.specs.Trace.Work.{work_of, AllowsWork};
 ghost use Rattle.lldp_program.specs.Trace.Items.{happens, items_of_work, items_of, items_of_lines};
 ghost use Rattle.lldp_program.specs.Code.Parts.{RunsItems, Between};
 ghost use Rattle.lldp_program.specs.Code.Plain.{EndsAt};
 ghost use Rattle.lldp_program.specs.Trace.Runs.{EndsTold, HasRun, KeepsOn, read_failures_after, write_failures_after};
+ghost use Rattle.lldp_program.specs.Ranges.{most_reads};
 ghost use Rattle.lldp_program.specs.Code.Pieces.{pieces, unfinished, if_any};
 
 use crate::buffer::{hold, read_more};
 use crate::device::{DeviceFault, Sink, Source};
-use crate::line::{LineFault, Work, frame_line, read_line};
+use crate::line::{FRAME_ROOM, LineFault, Work, frame_line, read_line};
 use crate::output::Output;
 use lldp_engine::{Agent, Command, Event, Marks};
 use memchr::{memchr, memrchr};
@@ -110,7 +112,7 @@ fn run_work<W: Sink>(
 struct Run<'a, 'w, W> {
     agent: &'a mut Agent,
     output: Output<'w, W>,
-    room: [u8; 2048],
+    room: [u8; FRAME_ROOM],
 }
 
 impl<W: Sink> Run<'_, '_, W> {
@@ -128,7 +130,7 @@ impl<W: Sink> Run<'_, '_, W> {
     /// Receives a frame, whose octets are the first ones of the room.
     fn receive(&mut self, port: u8, count: usize) -> Result<(), DeviceFault>
         requires port { IsPort self.old.agent.now port }
-        requires room { count ≤ 2048 }
+        requires room { count ≤ FRAME_ROOM }
         ensures { Performs W.taken W.failures W.place self.old self.new
             (λ past. happens (frame port (take count self.old.room)) ∷ []) result }
     {
@@ -239,14 +241,14 @@ pub fn run_trace<S: Source, W: Sink>(
     // The devices are still those that the caller passed.
     ensures places { (S.place reader.new ≡ S.place reader.old)
         × (W.place writer.new ≡ W.place writer.old) }
-    ensures calls { S.calls reader.new ≤ S.calls reader.old + 4294967295 }
+    ensures calls { S.calls reader.new ≤ S.calls reader.old + most_reads }
     ensures too_long { result ≡ Err RunFault.InputTooLong → S.calls reader.old < 2 ^ 63 →
-        S.calls reader.new ≡ S.calls reader.old + 4294967295 }
+        S.calls reader.new ≡ S.calls reader.old + most_reads }
 {
     let mut run = Run {
         agent,
         output: Output::new(writer),
-        room: [0u8; 2048],
+        room: [0u8; FRAME_ROOM],
     };
     let mut buffer = [0u8; BUFFER];
     let mut held = 0;

@@ -5,6 +5,7 @@ use Rattle.lldp_pdu.specs.Tlv.{TlvUnit}
 use Rattle.lldp_pdu.specs.TlvType.{port_description_type, system_name_type, system_description_type, system_capabilities_type, management_address_type, organizationally_specific_type}
 use Rattle.lldp_pdu.specs.Capabilities.{caps_fields}
 use Rattle.lldp_pdu.specs.ManagementAddress.{address_of, address_fields}
+use Rattle.lldp_pdu.specs.Range.{most_address, most_oid}
 use Rattle.lldp_text.specs.Text.{escaped}
 use Rattle.lldp_text.specs.Capabilities.{capabilities_text}
 use Rattle.lldp_text.specs.ManagementAddress.{management_text}
@@ -31,5 +32,5 @@ tlv_text tlv =
 -- the body holds a management address of at most 31 octets, and an OID of at most 128 octets
 pub record HasAddress (body : List ℕ) : Type 0 where
   pub address : address_of body ≡ Some (address_fields body (slice_index body 0))
-  pub short : length (address_fields body (slice_index body 0)).address ≤ 31
-  pub oid : length (address_fields body (slice_index body 0)).oid ≤ 128
+  pub short : length (address_fields body (slice_index body 0)).address ≤ most_address
+  pub oid : length (address_fields body (slice_index body 0)).oid ≤ most_oid

@@ -2,10 +2,7 @@
 use Rattle.std.specs.Prelude.{ℕ, zero, suc, Bool, not, ◌&&◌, ◌==◌, nat_le, if◌then◌else◌, List, [], ◌∷◌, ◌++◌, length, codes}
 use Rattle.std.specs.List.{flat_map, list_all}
 use Rattle.hex.specs.Hex.{encode_lower}
-
--- the most octets of a text
-abbrev pub most_text : ℕ
-most_text = 255
+use Rattle.lldp_pdu.specs.Range.{most_text}
 
 -- true if the text has at most 255 octets, each from the space to the tilde
 abbrev pub is_text : List ℕ → Bool

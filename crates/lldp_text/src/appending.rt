@@ -59,12 +59,13 @@ pub struct Head {
 
 impl Model for Head {
     ghost use Rattle.std.specs.Prelude.{ℕ, List, ◌≤◌, take};
+    ghost use Rattle.lldp_text.specs.declared.appending.TheConstants.{HEAD_ROOM};
 
     ghost Value = { List ℕ };
 
     ghost view = { λ h. take h.len h.room };
 
-    ghost invariant = { λ h. h.len ≤ 256 };
+    ghost invariant = { λ h. h.len ≤ HEAD_ROOM };
 }
 
 impl Head {
@@ -88,9 +89,11 @@ impl Head {
 }
 
 impl Append for Head {
+    ghost use Rattle.lldp_text.specs.declared.appending.TheConstants.{HEAD_ROOM};
+
     ghost held = { λ head. head };
 
-    ghost most = { 256 };
+    ghost most = { HEAD_ROOM };
 
     fn text(&mut self, octets: &[u8]) {
         let end = self.len + octets.len();

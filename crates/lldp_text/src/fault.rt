@@ -1,6 +1,7 @@
 //! Why a command is refused.
 ghost use Rattle.std.specs.Prelude.{◌≡◌, ◌≤◌, length};
 ghost use Rattle.lldp_text.specs.Fault.{text_of, number_of_fault};
+ghost use Rattle.lldp_text.specs.declared.writing.TheConstants.{MOST_LINE};
 
 /// Why a command is refused. If a line has several faults, the first of these is reported: a bad
 /// quote anywhere, the leftmost word that fits no command, a word too many, a limit that some port
@@ -36,7 +37,7 @@ impl CommandFault {
     /// Returns the line that reports the fault, without its line feed.
     pub fn text(self) -> &'static [u8]
         ensures text { result.now ≡ text_of self }
-        ensures short { length result.now ≤ 2048 }
+        ensures short { length result.now ≤ MOST_LINE }
     {
         match self {
             CommandFault::Unknown => b"error: unknown command",

@@ -1,6 +1,7 @@
 //! Writes chassis IDs and port IDs.
 ghost use Rattle.std.specs.Prelude.{◌≡◌, ◌+◌, ◌*◌, ◌≤◌, ◌++◌, length, codes, slice_index, drop};
 ghost use Rattle.lldp_pdu.specs.Msap.{IsIdentifier};
+ghost use Rattle.lldp_pdu.specs.Range.{most_identifier};
 ghost use Rattle.lldp_text.specs.Tail.{tail_text, tail_room};
 ghost use Rattle.lldp_text.specs.declared.writing.TheConstants.{ROOM, VALUE_ROOM};
 ghost use Rattle.lldp_text.specs.Addresses.{address_kind};
@@ -58,7 +59,7 @@ fn kind_of_port(subtype: u8) -> IdentifierKind
 /// Begins a whole body in hexadecimal, including its subtype.
 #[inline(always)]
 fn begin_unhandled<'a, L: Append>(line: &mut L, body: &'a [u8]) -> Tail<'a>
-    requires fits { length body.now ≤ 256 }
+    requires fits { length body.now ≤ most_identifier }
     requires room { length (L.held line.old) + 64 ≤ L.most }
     ensures value { L.held line.new ++ tail_text result ≡ L.held line.old ++ unhandled_text body.now }
     ensures len { length (L.held line.new) ≤ length (L.held line.old) + 10 }

@@ -2,6 +2,7 @@
 ghost use Rattle.std.specs.Prelude.{◌≡◌, ◌+◌, ◌*◌, ◌≤◌, ◌++◌, length, Some};
 ghost use Rattle.lldp_pdu.specs.Kept.{IsKeptTlv};
 ghost use Rattle.lldp_pdu.specs.Capabilities.{caps_of, caps_fields};
+ghost use Rattle.lldp_pdu.specs.Range.{most_body};
 ghost use Rattle.lldp_pdu.specs.View.{tlv_view};
 ghost use Rattle.lldp_text.specs.declared.writing.TheConstants.{ROOM, VALUE_ROOM};
 ghost use Rattle.lldp_text.specs.Tail.{tail_text, tail_room};
@@ -24,7 +25,7 @@ use lldp_pdu::{Tlv, caps, mgmt};
 fn begin_organizational<'a, L: Append>(line: &mut L, body: &'a [u8]) -> Tail<'a>
     requires room { length (L.held line.old) + 224 ≤ L.most }
     requires least { 4 ≤ length body.now }
-    requires short { length body.now ≤ 511 }
+    requires short { length body.now ≤ most_body }
     ensures value { L.held line.new ++ tail_text result
         ≡ L.held line.old ++ organizational_text body.now }
     ensures len { length (L.held line.new) ≤ length (L.held line.old) + 22 }
@@ -41,7 +42,7 @@ fn begin_organizational<'a, L: Append>(line: &mut L, body: &'a [u8]) -> Tail<'a>
 /// Begins a TLV of a reserved type.
 fn begin_unknown<'a, L: Append>(line: &mut L, tlv: Tlv<'a>) -> Tail<'a>
     requires room { length (L.held line.old) + 224 ≤ L.most }
-    requires short { length tlv.body.now ≤ 511 }
+    requires short { length tlv.body.now ≤ most_body }
     ensures value { L.held line.new ++ tail_text result
         ≡ L.held line.old ++ unknown_text (tlv_view tlv.entry) }
     ensures len { length (L.held line.new) ≤ length (L.held line.old) + 19 }

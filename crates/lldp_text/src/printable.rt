@@ -1,10 +1,10 @@
 //! Checks texts, such as hostnames and descriptions.
 ghost use Rattle.std.specs.Prelude.{◌≡◌, ◌≤◌, IsTrue, nat_le, ◌&&◌, length};
 ghost use Rattle.std.specs.List.{list_all};
-ghost use Rattle.lldp_text.specs.Text.{is_text, most_text};
+ghost use Rattle.lldp_pdu.specs.Range.{most_text};
+ghost use Rattle.lldp_text.specs.Text.{is_text};
 
-/// The most octets of a text.
-pub const MOST_TEXT: usize = 255;
+use lldp_pdu::MOST_TEXT;
 
 fn all_printable(text: &[u8]) -> bool
     ensures { result ≡ list_all (λ c. nat_le 32 c && nat_le c 126) text.now }

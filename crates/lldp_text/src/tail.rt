@@ -1,5 +1,6 @@
 //! What follows the head of a value.
 ghost use Rattle.std.specs.Prelude.{◌≡◌, ◌+◌, ◌*◌, ◌≤◌, ◌++◌, length, take};
+ghost use Rattle.lldp_pdu.specs.Range.{most_body};
 ghost use Rattle.lldp_text.specs.Text.{escape, escaped};
 ghost use Rattle.lldp_text.specs.Tail.{tail_text, tail_room};
 
@@ -56,7 +57,7 @@ pub(crate) fn begin_text<'a, L: Append>(line: &mut L, key: &[u8], text: &'a [u8]
 
 /// Returns the length of a text in escaped form.
 fn escaped_len(octets: &[u8]) -> usize
-    requires { length octets.now ≤ 511 }
+    requires { length octets.now ≤ most_body }
     ensures value { result ≡ length (escaped octets.now) }
     ensures most { result ≤ 4 * length octets.now }
 {

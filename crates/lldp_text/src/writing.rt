@@ -11,11 +11,14 @@ use crate::tail::Tail;
 use arrayvec::ArrayVec;
 use std::marker::Model;
 
-/// A line of at most 2,048 octets, without its line feed.
-pub type Line = ArrayVec<u8, 2048>;
+/// The greatest length of a line without its line feed, in octets.
+pub const MOST_LINE: usize = 2048;
 
 /// The greatest length of a line with its line feed, in octets.
-pub const LINE_ROOM: usize = 2049;
+pub const LINE_ROOM: usize = MOST_LINE + 1;
+
+/// A line without its line feed.
+pub type Line = ArrayVec<u8, MOST_LINE>;
 
 /// The greatest length of a value, in octets. A line has room for at least 64 octets before it.
 pub const VALUE_ROOM: usize = 1050;
@@ -33,12 +36,13 @@ pub struct Writer {
 
 impl Model for Writer {
     ghost use Rattle.std.specs.Prelude.{ℕ, List, ◌≤◌, take};
+    ghost use Rattle.lldp_text.specs.declared.writing.TheConstants.{ROOM};
 
     ghost Value = { List ℕ };
 
     ghost view = { λ w. take w.len w.room };
 
-    ghost invariant = { λ w. w.len ≤ 8192 };
+    ghost invariant = { λ w. w.len ≤ ROOM };
 }
 
 /// Returns whether escaping leaves each of these octets unchanged. The loop does not end early:
@@ -169,9 +173,11 @@ impl Writer {
 }
 
 impl Append for Writer {
+    ghost use Rattle.lldp_text.specs.declared.writing.TheConstants.{ROOM};
+
     ghost held = { λ line. line };
 
-    ghost most = { 8192 };
+    ghost most = { ROOM };
 
     fn text(&mut self, octets: &[u8]) {
         Writer::text(self, octets);

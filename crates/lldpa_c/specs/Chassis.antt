@@ -4,7 +4,7 @@ use Rattle.lldp_engine.specs.declared.agent.options.Role.{Role}
 use Rattle.lldp_engine.specs.declared.agent.options.Role.TheVariants.{Station, Bridge, Router}
 use Rattle.lldp_engine.specs.AgentState.{AgentState}
 use Rattle.lldpa_c.specs.declared.chassis.LldpaChassis.{LldpaChassis}
-use Rattle.lldp_text.specs.Text.{most_text}
+use Rattle.lldp_pdu.specs.Range.{most_text}
 
 -- the number of a role
 abbrev pub role_number : Role → ℕ

@@ -1,5 +1,5 @@
 -- The options with which C opens an agent.
-use Rattle.std.specs.Prelude.{◌≡◌, ℕ, ◌==◌, map, take, ◌⊎◌, true, false, Option, Some, None, IsSome, if◌then◌else◌}
+use Rattle.std.specs.Prelude.{◌≡◌, ℕ, ◌==◌, map, take, ◌+◌, ◌⊎◌, true, false, Option, Some, None, IsSome, if◌then◌else◌}
 use Rattle.std.specs.List.{All}
 use Rattle.std.specs.Str.{IsUtf8}
 use Rattle.lldp_engine.specs.declared.agent.options.Role.{Role}
@@ -13,6 +13,7 @@ use Rattle.lldpa_c.specs.declared.holder.LldpaAgent.{LldpaAgent}
 use Rattle.lldpa_c.specs.declared.options.LldpaOptions.{LldpaOptions}
 use Rattle.lldpa_c.specs.Faults.{refusal_number}
 use Rattle.lldpa_c.specs.Frame.{Keeps}
+use Rattle.lldp_engine.specs.Ranges.{most_ports}
 
 -- the role with this number, if there is one
 abbrev pub role_numbered : ℕ → Option Role
@@ -42,7 +43,7 @@ asked o = record {
 -- UTF-8, and the four numbers are in their ranges.
 pub record IsRead (o : LldpaOptions) : Type 0 where
   pub role : IsSome (role_numbered o.role)
-  pub names : All (λ text. IsUtf8 text.octets.now) (take 65 o.ports.now)
+  pub names : All (λ text. IsUtf8 text.octets.now) (take (most_ports + 1) o.ports.now)
   pub hostname : IsUtf8 o.hostname.octets.now
   pub range : InRange (asked o)
 

@@ -1,7 +1,7 @@
 -- Texts of TLVs and escaped texts, as `show neighbors` writes them.
 use Rattle.std.specs.Prelude.{ℕ, ◌&&◌, ◌==◌, not, nat_le, nat_lt, Bool, List, [], ◌∷◌, ◌++◌, length, codes, Option, Some, None, is_none, if◌then◌else◌}
 use Rattle.lldp_pdu.specs.Check.{Check}
-use Rattle.lldp_pdu.specs.Range.{is_between}
+use Rattle.lldp_pdu.specs.Range.{is_between, most_body}
 use Rattle.lldp_pdu.specs.WellFormed.{is_well_formed}
 use Rattle.lldp_text.specs.Identifier.{chassis_text, port_text}
 use Rattle.lldp_text.specs.KeptTlv.{tlv_text}
@@ -13,7 +13,7 @@ use Rattle.lldpa_c.specs.Answer.{is_over}
 -- formed for the type and has at most 511 octets.
 abbrev pub may_write : ℕ → List ℕ → Bool
 may_write kind body =
-    is_between 1 kind 127 && not (kind == 3) && nat_le (length body) 511 && is_well_formed (record { kind = kind; body = body })
+    is_between 1 kind 127 && not (kind == 3) && nat_le (length body) most_body && is_well_formed (record { kind = kind; body = body })
 
 -- the text of a TLV in a line of `show neighbors`, without the prefix `lldp.PORT.N.`
 abbrev pub value_of : ℕ → List ℕ → List ℕ
@@ -36,6 +36,6 @@ value_checks kind body room =
 -- A text is not escaped if it is over 511 octets, or if the result does not fit in this buffer.
 abbrev pub escape_checks : List ℕ → ℕ → List (Check ℕ)
 escape_checks text room =
-    record { fails = nat_lt 511 (length text); fault = OUT_OF_RANGE }
+    record { fails = nat_lt most_body (length text); fault = OUT_OF_RANGE }
     ∷ record { fails = is_over room (Some (escaped text)); fault = NO_ROOM }
     ∷ []

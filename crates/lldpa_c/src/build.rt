@@ -7,7 +7,7 @@ ghost use Rattle.lldpa_c.specs.Building.{tlv_of, fault_number, put_all, put_faul
 use crate::answer::{NO_ROOM, OUT_OF_RANGE};
 use crate::faults::tlv_fault_number;
 use crate::giving::give;
-use lldp_pdu::Builder;
+use lldp_pdu::{Builder, MOST_IDENTIFIER};
 
 /// A TLV to put into an LLDPDU.
 #[repr(C)]
@@ -21,7 +21,7 @@ pub struct LldpaTlv<'a> {
 fn is_identifier(body: &[u8]) -> bool
     ensures { IsTrue result ↔ IsIdentifier body.now }
 {
-    2 <= body.len() && body.len() <= 256
+    2 <= body.len() && body.len() <= MOST_IDENTIFIER
 }
 
 /// Puts a TLV into the LLDPDU. Returns 0, or the number of the fault if the TLV is left out.

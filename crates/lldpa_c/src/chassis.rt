@@ -2,12 +2,12 @@
 ghost use Rattle.std.specs.Prelude.{◌≡◌, ◌≤◌, length, take, drop, replicate};
 ghost use Rattle.lldpa_c.specs.Chassis.{role_number, TellsChassis};
 ghost use Rattle.lldpa_c.specs.Reading.{ReadsChassis};
-ghost use Rattle.lldp_text.specs.Text.{most_text};
+ghost use Rattle.lldp_pdu.specs.Range.{most_text};
 
 use crate::answer::{NOT_OPEN, OK};
 use crate::holder::LldpaAgent;
 use lldp_engine::{Agent, Role};
-use lldp_text::MOST_TEXT;
+use lldp_pdu::MOST_TEXT;
 use std::alloc::Global;
 
 /// What an agent says about its host.
@@ -24,9 +24,9 @@ pub struct LldpaChassis {
     pub hostname_length: u8,
     pub description_length: u8,
     /// The system name, followed by zeros.
-    pub hostname: [u8; 255],
+    pub hostname: [u8; MOST_TEXT],
     /// The system description, followed by zeros.
-    pub description: [u8; 255],
+    pub description: [u8; MOST_TEXT],
 }
 
 /// Returns the number of a role.

@@ -3,7 +3,7 @@ ghost use Rattle.std.specs.Prelude.{◌≡◌, map};
 ghost use Rattle.lldpa_c.specs.Marks.{TellsMarks};
 
 use crate::machine::mark_number;
-use lldp_engine::Marks;
+use lldp_engine::{MOST_PORTS, Marks};
 
 /// A port, and the number of the mark that says which frame to send.
 #[repr(C)]
@@ -17,7 +17,7 @@ pub struct LldpaMark {
 #[repr(C)]
 #[derive(Clone, Copy)]
 pub struct LldpaMarks {
-    pub items: [LldpaMark; 64],
+    pub items: [LldpaMark; MOST_PORTS],
     pub count: u8,
 }
 

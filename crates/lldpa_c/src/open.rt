@@ -13,7 +13,8 @@ use crate::holder::LldpaAgent;
 use crate::options::{LldpaOptions, LldpaText};
 use arrayvec::ArrayVec;
 use lldp_engine::{
-    Agent, MOST_CREDIT, MOST_FAST, MOST_NEIGHBORS, MOST_REINIT, OpenFault, Options, Role,
+    Agent, MOST_CREDIT, MOST_FAST, MOST_NEIGHBORS, MOST_PORTS, MOST_REINIT, OpenFault, Options,
+    Role,
 };
 use std::alloc::Global;
 
@@ -29,14 +30,17 @@ fn role_numbered(number: u32) -> Option<Role>
     }
 }
 
-/// Returns the first 65 names (one more than allowed), or None if one of them is not UTF-8.
-fn names_of<'a>(ports: &'a [LldpaText<'a>]) -> Option<ArrayVec<&'a str, 65>>
+/// The most names that are read: one more than an agent may have ports.
+const MOST_READ: usize = MOST_PORTS + 1;
+
+/// Returns the first `MOST_READ` names, or None if one of them is not UTF-8.
+fn names_of<'a>(ports: &'a [LldpaText<'a>]) -> Option<ArrayVec<&'a str, MOST_READ>>
     ensures names { IfSome result (λ names. map (λ name. name.now) names.items
-        ≡ map (λ text. text.octets.now) (take (min (length ports.now) 65) ports.now)) }
-    ensures read { IfSome result (λ _. All (λ text. IsUtf8 text.octets.now) (take 65 ports.now)) }
-    ensures none { IfNone result (¬ (All (λ text. IsUtf8 text.octets.now) (take 65 ports.now))) }
+        ≡ map (λ text. text.octets.now) (take (min (length ports.now) MOST_READ) ports.now)) }
+    ensures read { IfSome result (λ _. All (λ text. IsUtf8 text.octets.now) (take MOST_READ ports.now)) }
+    ensures none { IfNone result (¬ (All (λ text. IsUtf8 text.octets.now) (take MOST_READ ports.now))) }
 {
-    let first = &ports[..ports.len().min(65)];
+    let first = &ports[..ports.len().min(MOST_READ)];
     let mut names = ArrayVec::new();
     for text in first {
         match std::str::from_utf8(text.octets) {

@@ -24,7 +24,7 @@ pub struct LldpaConfiguration {
     pub max_neighbors: u32,
     pub ports: u32,
     /// The number of each port's status. Elements after the last port are 0.
-    pub status: [u8; 64],
+    pub status: [u8; MOST_PORTS],
 }
 
 /// Writes the counters of a port.

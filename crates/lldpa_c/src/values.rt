@@ -7,11 +7,8 @@ ghost use Rattle.lldpa_c.specs.Values.{may_write, value_of, tlv_value, value_che
 
 use crate::answer::{NO_ROOM, OK, OUT_OF_RANGE};
 use lldp_pdu::tlv_type::{CHASSIS_ID, ORGANIZATIONALLY_SPECIFIC, PORT_ID, TIME_TO_LIVE};
-use lldp_pdu::{Seen, Tlv};
+use lldp_pdu::{MOST_BODY, Seen, Tlv};
 use lldp_text::{Append, Head, Tail, begin_chassis, begin_kept_tlv, begin_port};
-
-/// The greatest length of a TLV's body, in octets.
-const MOST_BODY: usize = 511;
 
 /// True if `show neighbors` can write a TLV of this type with this body.
 fn may_write(kind: u32, body: &[u8]) -> bool

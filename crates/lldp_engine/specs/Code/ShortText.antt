@@ -2,7 +2,7 @@
 use Rattle.std.specs.Prelude.{◌≡◌, ◌≤◌, length, IfSome}
 use Rattle.lldp_engine.specs.Configuration.{Configuration}
 use Rattle.lldp_engine.specs.Event.{Event, set, hostname, description}
-use Rattle.lldp_text.specs.Text.{most_text}
+use Rattle.lldp_pdu.specs.Range.{most_text}
 
 -- Holds if the event sets no text, or a text of at most 255 octets.
 abbrev pub HasShortText : Event → Type 0

@@ -1,16 +1,16 @@
 -- The value after the key of a shown line.
-use Rattle.std.specs.Prelude.{ℕ, ◌≤◌, List, ◌++◌, length, decimal}
+use Rattle.std.specs.Prelude.{ℕ, ◌≤◌, List, ◌++◌, length, codes, decimal}
 use Rattle.std.specs.Borrow.{Bor}
 use Rattle.lldp_pdu.specs.Msap.{IsIdentifier}
 use Rattle.lldp_pdu.specs.Kept.{IsKeptTlv}
 use Rattle.lldp_pdu.specs.View.{tlv_view}
 use Rattle.lldp_engine.specs.declared.show.line.Value.{Value}
 use Rattle.lldp_engine.specs.declared.show.line.Value.TheVariants as value
-use Rattle.lldp_text.specs.Addresses.{mac_text}
-use Rattle.lldp_engine.specs.ChassisLines.{own_address_text}
+use Rattle.lldp_text.specs.Addresses.{ipv4_text, mac_text}
 use Rattle.lldp_text.specs.Identifier.{chassis_text, port_text}
 use Rattle.lldp_text.specs.KeptTlv.{tlv_text}
-use Rattle.lldp_text.specs.Text.{escaped, most_text}
+use Rattle.lldp_pdu.specs.Range.{most_text}
+use Rattle.lldp_text.specs.Text.{escaped}
 use Rattle.lldp_pdu.specs.Tlv.{TlvUnit}
 
 -- Returns the text of a value.
@@ -19,7 +19,7 @@ value_text (value.Number n) = decimal n
 value_text (value.Word text) = text.now
 value_text (value.Text text) = escaped text.now
 value_text (value.Mac octets) = mac_text octets.now
-value_text (value.OwnAddress octets) = own_address_text octets.now
+value_text (value.OwnAddress octets) = ipv4_text octets.now ++ codes ",1,0,"
 value_text (value.Chassis id) = chassis_text id.now
 value_text (value.Port id) = port_text id.now
 value_text (value.Kept tlv) = tlv_text (tlv_view tlv)

@@ -5,6 +5,7 @@ use Rattle.lldp_transmit.specs.History.{History, event as caused}
 use Rattle.lldp_engine.specs.Event.{Event, set, interval}
 use Rattle.lldp_engine.specs.Laws.LastSet.{IsLastSet}
 use Rattle.lldp_engine.specs.Past.{Past, with_event, past_of}
+use Rattle.lldp_engine.specs.Ranges.{first_interval}
 use Rattle.lldp_engine.specs.Port.Past.{causes_after}
 
 -- Returns what each event so far meant to the transmit machine of port i.
@@ -16,4 +17,4 @@ causes_at past i = causes_after past.options (past_of past i)
 pub record IsFor (past : Past) (event : Event) (i : ℕ) (cause : Cause) : Type 0 where
   pub seconds : ℕ
   pub is : causes_at (with_event past event) i ≡ caused cause seconds ∷ causes_at past i
-  pub last : IsLastSet (λ given. set (interval given)) 30 (event ∷ past.events) seconds
+  pub last : IsLastSet (λ given. set (interval given)) first_interval (event ∷ past.events) seconds

@@ -3,8 +3,8 @@ use Rattle.std.specs.Prelude.{◌≡◌, ℕ, ◌+◌, ◌*◌, ◌/◌, ◌%◌
 use Rattle.lldp_engine.specs.declared.agent.options.Role.{Role}
 use Rattle.lldp_engine.specs.declared.agent.options.Role.TheVariants.{Station, Bridge, Router}
 use Rattle.lldp_engine.specs.Configuration.{Configuration}
-use Rattle.lldp_text.specs.Text.{most_text}
-use Rattle.lldp_engine.specs.Ranges.{most_name}
+use Rattle.lldp_pdu.specs.Range.{most_text}
+use Rattle.lldp_engine.specs.Ranges.{most_name, most_ttl}
 
 -- As in every agent: a MAC address of 6 octets, a management address of 4, texts of at most 255
 -- octets, and a port's name of at most 15.
@@ -29,7 +29,7 @@ front_octets c name =
 -- Time To Live (type 3): tx-interval times tx-hold, plus 1, at most 65,535, high octet first.
 abbrev pub ttl_octets : Configuration → List ℕ
 ttl_octets c =
-    let ttl = min 65535 (c.interval * c.hold + 1) in
+    let ttl = min most_ttl (c.interval * c.hold + 1) in
     tlv_octets 0x06 (ttl / 256 ∷ ttl % 256 ∷ [])
 
 -- System Capabilities (type 7), both available and enabled: station only, bridge, or router.

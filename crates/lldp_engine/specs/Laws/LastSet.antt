@@ -6,6 +6,7 @@ use Rattle.lldp_engine.specs.Options.{Options}
 use Rattle.lldp_engine.specs.Status.{status_at_opening}
 use Rattle.lldp_engine.specs.Event.{Event, link, set, hostname, description, interval, hold, limit, status}
 use Rattle.lldp_engine.specs.Configuration.{Configuration, configuration_at_opening}
+use Rattle.lldp_engine.specs.Ranges.{first_interval}
 
 -- None of these events sets the value; `make value` is the event that sets it to `value`.
 abbrev pub NoneSets : {X : Type 0} → (X → Event) → List Event → Type 0
@@ -41,7 +42,7 @@ without_commands o c =
 pub record IsLastConfiguration (o : Options) (events : List Event) (c : Configuration) : Type 0 where
   pub by_hostname : IsLastSet (λ text. set (hostname text)) o.hostname events c.hostname
   pub by_description : IsLastSet (λ text. set (description text)) (codes "lldpa") events c.description
-  pub by_interval : IsLastSet (λ seconds. set (interval seconds)) 30 events c.interval
+  pub by_interval : IsLastSet (λ seconds. set (interval seconds)) first_interval events c.interval
   pub by_hold : IsLastSet (λ times. set (hold times)) 4 events c.hold
   pub by_limit : IsLastSet (λ neighbors. set (limit neighbors)) o.max_neighbors events c.limit
   pub others : without_commands o c ≡ configuration_at_opening o

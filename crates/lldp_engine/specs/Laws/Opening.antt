@@ -9,7 +9,7 @@ use Rattle.lldp_engine.specs.Options.{Options, is_name_octet}
 use Rattle.lldp_engine.specs.Configuration.{Configuration}
 use Rattle.lldp_engine.specs.AgentState.{AgentState, PortState, names_of}
 use Rattle.lldp_engine.specs.FixedNumbers.{number_of_refusal}
-use Rattle.lldp_text.specs.Text.{most_text}
+use Rattle.lldp_pdu.specs.Range.{most_text}
 use Rattle.lldp_engine.specs.Ranges.{first_interval, most_ports, most_name}
 
 -- A port's name: 1 to 15 octets, each of them allowed in names.

@@ -4,12 +4,12 @@ ghost use Rattle.lldp_engine.specs.Options.{options_of};
 ghost use Rattle.lldp_engine.specs.Event.{event_of};
 ghost use Rattle.lldp_engine.specs.Configuration.{configuration_at_opening, configured, sent_ttl};
 ghost use Rattle.lldp_engine.specs.Code.ShortText.{HasShortText};
-ghost use Rattle.lldp_text.specs.Text.{most_text};
+ghost use Rattle.lldp_pdu.specs.Range.{most_text};
 
 use crate::agent::event::{Event, Setting};
 use crate::agent::options::{Options, Role};
 use arrayvec::ArrayVec;
-use lldp_text::MOST_TEXT;
+use lldp_pdu::MOST_TEXT;
 use std::marker::Model;
 
 /// The tx-interval at opening, in seconds.
@@ -17,6 +17,9 @@ const INTERVAL: u16 = 30;
 
 /// The tx-hold at opening.
 const HOLD: u8 = 4;
+
+/// The greatest TTL of a frame, in seconds.
+const MOST_TTL: u16 = 65535;
 
 /// A text of at most 255 octets.
 pub type Text = ArrayVec<u8, MOST_TEXT>;
@@ -136,6 +139,6 @@ impl Configuration {
         ensures value { result ≡ sent_ttl self.now }
         ensures lives { 0 < result }
     {
-        (u32::from(self.interval) * u32::from(self.hold) + 1).min(65535) as u16
+        (u32::from(self.interval) * u32::from(self.hold) + 1).min(u32::from(MOST_TTL)) as u16
     }
 }

@@ -15,16 +15,16 @@ use crate::agent::Agent;
 use crate::agent::configuration::Configuration;
 use crate::agent::options::Role;
 use arrayvec::ArrayVec;
-use lldp_pdu::append_tlv;
 use lldp_pdu::tlv_type::{
     CHASSIS_ID, END_OF_LLDPDU, MANAGEMENT_ADDRESS, PORT_DESCRIPTION, PORT_ID, SYSTEM_CAPABILITIES,
     SYSTEM_DESCRIPTION, SYSTEM_NAME, TIME_TO_LIVE,
 };
+use lldp_pdu::{MOST_FRAME, append_tlv};
 use lldp_transmit::Mark;
 use std::alloc::Allocator;
 
-/// A frame to send, at most 1,514 octets.
-pub type Frame = ArrayVec<u8, 1514>;
+/// A frame to send.
+pub type Frame = ArrayVec<u8, MOST_FRAME>;
 
 /// Returns the body of the Chassis ID TLV: subtype 4 and the MAC address.
 fn chassis_id(configuration: &Configuration) -> ArrayVec<u8, 7>

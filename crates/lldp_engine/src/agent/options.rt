@@ -2,7 +2,7 @@
 ghost use Rattle.std.specs.Prelude.{◌≡◌, ◌≤◌, ◌↔◌, IsTrue, IfNone, map, length};
 ghost use Rattle.std.specs.List.{list_all};
 ghost use Rattle.lldp_engine.specs.Options.{InRange, options_of, is_port_name, fault_of};
-ghost use Rattle.lldp_text.specs.Text.{most_text};
+ghost use Rattle.lldp_pdu.specs.Range.{most_text};
 ghost use Rattle.lldp_engine.specs.Ranges.{most_ports};
 
 use crate::agent::open_fault::OpenFault;

@@ -1,6 +1,7 @@
 //! The lines of each show, and the sinks that take them.
 ghost use Rattle.std.specs.Prelude.{◌≡◌, ◌≤◌, ◌↔◌, ℕ, List, [], ◌∷◌, ◌++◌, length, Some, None};
 ghost use Rattle.std.specs.Borrow.{MutBor};
+ghost use Rattle.lldp_text.specs.declared.writing.TheConstants.{MOST_LINE};
 ghost use Rattle.lldp_text.specs.Text.{ended};
 ghost use Rattle.lldp_engine.specs.declared.command.Show.{Show};
 ghost use Rattle.lldp_engine.specs.AgentState.{AgentState};
@@ -23,7 +24,7 @@ pub fn sinks_take_each_line()
     ensures all { (before after lines : List (List ℕ)) →
         Takes Adds before after lines ↔ (after ≡ before ++ lines) }
     ensures written { (before after : List (List ℕ)) (writer : MutBor (List ℕ))
-        (line : List ℕ) → length line ≤ 2048 →
+        (line : List ℕ) → length line ≤ MOST_LINE →
         TakesWritten Adds before (Some writer) after (writer.now ++ ended line) →
         after ≡ before ++ line ∷ [] }
     ensures any { (before after : List (List ℕ)) (line : List ℕ) →

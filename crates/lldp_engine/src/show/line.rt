@@ -4,7 +4,7 @@ ghost use Rattle.std.specs.Borrow.{sem, Bor};
 ghost use Rattle.std.specs.List.{AllByRecursion};
 ghost use Rattle.lldp_engine.specs.LineRoom.{LendsRoom};
 ghost use Rattle.lldp_engine.specs.Code.ShownValue.{value_text, FitsLine, plain_number};
-ghost use Rattle.lldp_text.specs.declared.writing.TheConstants.{ROOM, VALUE_ROOM};
+ghost use Rattle.lldp_text.specs.declared.writing.TheConstants.{LINE_ROOM, ROOM, VALUE_ROOM};
 ghost use Rattle.lldp_engine.specs.Keys.{front_of, port_key, neighbor_key, number_lines};
 ghost use Rattle.lldp_engine.specs.Takes.{Takes};
 ghost use Rattle.lldp_engine.specs.Ranges.{most_name};
@@ -24,7 +24,7 @@ pub trait LineSink {
     /// need not be written.
     fn begin_line(&mut self) -> Option<&mut Writer>
         ensures* takes_line { sem 𝓛 (LendsRoom Self.row takes self.entry result) }
-        ensures room { IfSome result (λ writer. length writer.now + 2049 ≤ 8192) };
+        ensures room { IfSome result (λ writer. length writer.now + LINE_ROOM ≤ ROOM) };
 
     /// Returns whether no further line changes the sink, so that the other lines can be left out.
     /// Each show checks this before each port and each neighbor, although no clause states it.

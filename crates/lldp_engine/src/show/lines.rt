@@ -7,6 +7,7 @@ ghost use Rattle.lldp_engine.specs.Past.{Past, agent_of};
 ghost use Rattle.lldp_engine.specs.Standing.{Stands};
 ghost use Rattle.lldp_engine.specs.Takes.{Takes};
 ghost use Rattle.lldp_engine.specs.Code.OneLineState.{line_kept};
+ghost use Rattle.lldp_text.specs.declared.writing.TheConstants.{LINE_ROOM};
 
 use crate::agent::Agent;
 use crate::agent::options::{MOST_NEIGHBORS, MOST_PORTS};
@@ -34,7 +35,7 @@ impl<A: Allocator> Agent<A> {
     /// states this).
     pub fn show_lines<S: LineSink>(&self, show: &Show, sink: &mut S)
         ensures value { Takes S.takes sink.old sink.new (lines_of show.now self.now) }
-        ensures few { length (lines_of show.now self.now) ≤ 6127808 }
+        ensures few { length (lines_of show.now self.now) ≤ MOST_LINES }
         ensures past { (past : Past) → Stands past self.now →
             Takes S.takes sink.old sink.new (lines_of show.now (agent_of past)) }
     {
@@ -55,7 +56,7 @@ impl<A: Allocator> Agent<A> {
         ensures same { self.new ≡ self.old }
         ensures value { Takes S.takes sink.old sink.new
             (drop from (lines_of show.now self.old)) }
-        ensures few { length (lines_of show.now self.old) ≤ 6127808 }
+        ensures few { length (lines_of show.now self.old) ≤ MOST_LINES }
     {
         let cursor = self.cursor(show, from);
         let mut later = SkipLines::new(sink, from - cursor.before);
@@ -67,7 +68,7 @@ impl<A: Allocator> Agent<A> {
         requires { IsCursorOf show.now self.now cursor }
         ensures value { Takes S.takes sink.old sink.new
             (drop cursor.before (lines_of show.now self.now)) }
-        ensures few { length (lines_of show.now self.now) ≤ 6127808 }
+        ensures few { length (lines_of show.now self.now) ≤ MOST_LINES }
     {
         if cursor.before == 0 {
             self.show_lines(show, sink);
@@ -80,7 +81,7 @@ impl<A: Allocator> Agent<A> {
     /// through all earlier lines (no clause states this); use `show_lines` for several lines.
     pub(crate) fn keep_line(&self, show: &Show, i: u32, sink: &mut OneLine)
         ensures line { line_kept sink.new ≡ slice_get (lines_of show.now self.now) i }
-        ensures short { length sink.new.line ≤ 2049 }
+        ensures short { length sink.new.line ≤ LINE_ROOM }
         ensures few { length (lines_of show.now self.now) ≤ MOST_LINES }
         ensures past { (past : Past) → Stands past self.now →
             line_kept sink.new ≡ slice_get (lines_of show.now (agent_of past)) i }
@@ -93,7 +94,7 @@ impl<A: Allocator> Agent<A> {
     /// no such line. Goes through all earlier lines (no clause states this).
     pub fn show_line(&self, show: &Show, i: u32) -> Option<Line>
         ensures line { option_map (λ line. line.items) result ≡ slice_get (lines_of show.now self.now) i }
-        ensures few { IsSome result → i < 6127808 }
+        ensures few { IsSome result → i < MOST_LINES }
         ensures past { (past : Past) → Stands past self.now →
             option_map (λ line. line.items) result ≡ slice_get (lines_of show.now (agent_of past)) i }
     {

@@ -1,8 +1,8 @@
 //! The lines of `show neighbors`.
-ghost use Rattle.std.specs.Prelude.{◌≡◌, ◌≤◌, ◌+◌, drop, length, map};
+ghost use Rattle.std.specs.Prelude.{◌≡◌, ◌≤◌, ◌+◌, codes, drop, length, map, if◌then◌else◌};
 ghost use Rattle.std.specs.List.{AllByRecursion};
 ghost use Rattle.lldp_pdu.specs.Kept.{IsKeptTlv};
-ghost use Rattle.lldp_engine.specs.NeighborLines.{neighbor_lines, numbered_lines, yes_or_no, count_lines, port_lines, neighbors_lines};
+ghost use Rattle.lldp_engine.specs.NeighborLines.{neighbor_lines, numbered_lines, count_lines, port_lines, neighbors_lines};
 ghost use Rattle.lldp_engine.specs.Code.Cursor.{IsBehind};
 ghost use Rattle.lldp_engine.specs.Takes.{Takes};
 ghost use Rattle.lldp_engine.specs.Ranges.{most_name};
@@ -16,7 +16,7 @@ use lldp_table::Entry;
 use std::alloc::Allocator;
 
 fn word_of(condition: bool) -> &'static [u8]
-    ensures value { result.now ≡ yes_or_no condition }
+    ensures value { result.now ≡ (if condition then codes "yes" else codes "no") }
     ensures short { length result.now ≤ 3 }
 {
     if condition { b"yes" } else { b"no" }

@@ -5,7 +5,7 @@ use Rattle.lldp_pdu.specs.declared.fault.BuildFault.TheVariants.{Full, Kind, Bod
 use Rattle.lldp_pdu.specs.Tlv.{TlvUnit, spellings}
 use Rattle.lldp_pdu.specs.WellFormed.{is_well_formed}
 use Rattle.lldp_pdu.specs.Draft.{Draft, all_tlvs, put_fault}
-use Rattle.lldp_pdu.specs.Range.{most_octets}
+use Rattle.lldp_pdu.specs.Range.{most_body, most_octets}
 
 -- The type is 4 to 127, the TTL is above 0, and if the type is 4 to 7, no TLV of it was put.
 pub record MayFollow (d : Draft) (u : TlvUnit) : Type 0 where
@@ -16,7 +16,7 @@ pub record MayFollow (d : Draft) (u : TlvUnit) : Type 0 where
 
 -- The body has at most 511 octets and is well formed for its type.
 pub record HasBody (u : TlvUnit) : Type 0 where
-  pub short : length u.body ≤ 511
+  pub short : length u.body ≤ most_body
   pub well_formed : is_well_formed u ≡ true
 
 -- The fault is Kind if the TLV may not follow, else Body if its body is wrong, and else Full if the

@@ -17,6 +17,7 @@ use Rattle.lldp_engine.specs.declared.agent.options.Role.{Role}
 use Rattle.lldp_engine.specs.declared.agent.options.Role.TheVariants.{Station, Bridge, Router}
 use Rattle.lldp_engine.specs.Options.{Options}
 use Rattle.lldp_program.specs.CommandLine.Addresses.{IsMac}
+use Rattle.lldp_program.specs.Ranges.{most_connections, most_tcp_port}
 use Rattle.lldp_program.specs.declared.arguments.Listening.{Listening}
 use Rattle.lldp_program.specs.declared.arguments.AddressFault.{AddressFault}
 use Rattle.lldp_program.specs.declared.arguments.AddressFault.TheVariants.{Mac, Management}
@@ -43,21 +44,8 @@ AreRoles roles = map (λ (s : Bor Text). s.now) roles.now ≡ codes "station" �
 abbrev pub role_rule : Bor (List (Bor Text)) → Rule
 role_rule roles = record (text_rule (codes "role") (codes "station")) { parser = Some (Names roles) }
 
--- the option `--receive-only`, which has no value
-abbrev pub receive_only_rule : Rule
-receive_only_rule = record
-    (new_rule (codes "receive-only")) { long = Some (codes "receive-only"); action = Some SetTrue }
-
--- the option `--listen`, whose value is a TCP port from 1 to 65535
-abbrev pub listen_rule : Rule
-listen_rule = record (valued_rule (codes "listen")) { parser = Some (Signed (pos 1) (pos 65535)) }
-
--- the arguments that are not options: the names of any number of ports
-abbrev pub ports_rule : Rule
-ports_rule =
-    record (new_rule (codes "PORT")) { range = Some (record { start_inclusive = 0; end_inclusive = usize_max }) }
-
--- the command line: `--version`, the options in the order of the help, and the ports
+-- The command line: `--version`, the options in the order of the help, and the names of any number of ports.
+-- `--receive-only` has no value, and `--listen` has no default.
 abbrev pub program : Bor (List (Bor Text)) → App
 program roles =
     fold with_rule (on_top (λ s. record s { has_version = true }) (new_app (codes "lldpa")))
@@ -69,10 +57,10 @@ program roles =
     ∷ number_rule (codes "tx-credit-max") most_credit_max (codes "5")
     ∷ number_rule (codes "tx-fast-init") most_fast_init (codes "4")
     ∷ number_rule (codes "reinit-delay") most_reinit (codes "2")
-    ∷ receive_only_rule
-    ∷ listen_rule
-    ∷ number_rule (codes "connections") 65535 (codes "1")
-    ∷ ports_rule ∷ [])
+    ∷ record (new_rule (codes "receive-only")) { long = Some (codes "receive-only"); action = Some SetTrue }
+    ∷ record (valued_rule (codes "listen")) { parser = Some (Signed (pos 1) (pos most_tcp_port)) }
+    ∷ number_rule (codes "connections") most_connections (codes "1")
+    ∷ record (new_rule (codes "PORT")) { range = Some (record { start_inclusive = 0; end_inclusive = usize_max }) } ∷ [])
 
 -- the role with this name, or Station for any other name
 abbrev pub role_named : Text → Role

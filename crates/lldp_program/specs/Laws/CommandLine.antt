@@ -18,6 +18,7 @@ use Rattle.lldp_engine.specs.Options.{Options, InRange}
 use Rattle.lldp_program.specs.CommandLine.Addresses.{IsMac}
 use Rattle.lldp_program.specs.CommandLine.Usage.{AreRoles, AsksManagement, IsBad, program, role_named}
 use Rattle.lldp_program.specs.Laws.Listening.{IsNumberIn}
+use Rattle.lldp_program.specs.Ranges.{most_connections, most_tcp_port}
 use Rattle.lldp_table.specs.Ranges.{most_neighbors}
 use Rattle.lldp_transmit.specs.Ranges.{most_credit_max, most_fast_init, most_reinit}
 
@@ -54,7 +55,7 @@ pub record HasOptions (roles : Bor (List (Bor Text))) : Type 0 where
   pub plain : AllByRecursion IsPlain (rules roles)
   pub takes : map (λ r. r.parser) (rules roles)
       ≡ number_to most_neighbors ∷ None ∷ None ∷ None ∷ Some (Names roles) ∷ number_to most_credit_max ∷ number_to most_fast_init ∷ number_to most_reinit ∷ None
-      ∷ number_to 65535 ∷ number_to 65535 ∷ None ∷ []
+      ∷ number_to most_tcp_port ∷ number_to most_connections ∷ None ∷ []
   -- in order: 32; 02:00:00:00:00:01; localhost; none; station; 5; 4; 2; none; none; 1; none
   pub defaults : map (λ r. r.defaults) (rules roles)
       ≡ ((codes "32") ∷ [])

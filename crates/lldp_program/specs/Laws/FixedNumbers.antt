@@ -3,9 +3,10 @@ use Rattle.std.specs.Prelude.{codes, ◌≡◌, [], ◌∷◌, map, Result, Ok, 
 use Rattle.lldp_engine.specs.declared.agent.open_fault.OpenFault.TheVariants as opening
 use Rattle.lldp_text.specs.declared.fault.CommandFault.{CommandFault}
 use Rattle.lldp_program.specs.declared.arguments.AddressFault.TheVariants as address
+use Rattle.lldp_program.specs.declared.arguments.TheConstants.{MOST_CONNECTIONS, MOST_TCP_PORT}
 use Rattle.lldp_program.specs.declared.device.DeviceFault.{DeviceFault}
 use Rattle.lldp_program.specs.declared.line.LineFault.TheVariants.{TooLong, Hex, Command}
-use Rattle.lldp_program.specs.declared.line.TheConstants.{LONGEST}
+use Rattle.lldp_program.specs.declared.line.TheConstants.{LONGEST, MOST_TICKS}
 use Rattle.lldp_program.specs.declared.program.TheConstants.{DONE, REFUSED}
 use Rattle.lldp_program.specs.declared.serve.ServeFault.TheVariants.{Accept}
 use Rattle.lldp_program.specs.declared.trace.RunFault.{RunFault}
@@ -15,14 +16,18 @@ use Rattle.lldp_program.specs.declared.fault.ProgramFault.TheVariants as program
 use Rattle.lldp_program.specs.Faults.ProgramFault.{ended_by, line_of, status_of}
 use Rattle.lldp_program.specs.Serving.{this_host}
 use Rattle.lldp_program.specs.Faults.FaultNumber.{number_of_run_fault, number_of_serve_fault, number_of_line_fault}
-use Rattle.lldp_program.specs.Ranges.{most_of_line}
+use Rattle.lldp_program.specs.Ranges.{most_connections, most_of_line, most_tcp_port, most_reads, most_ticks}
 
--- The statuses 0 and 2; the most octets of a line; the most reads of a run; the numbers of faults;
+-- The statuses 0 and 2; the most octets of a line and ticks that it asks for; the most reads of a run; the greatest
+-- values of `--listen` and `--connections`; the numbers of faults;
 -- the status of each fault, 1 for the first four and 2 for the others; the octets of 127.0.0.1.
 pub record AreNumbers : Type 0 where
   pub statuses : DONE ∷ REFUSED ∷ [] ≡ 0 ∷ 2 ∷ []
   pub longest : LONGEST ≡ most_of_line
-  pub reads : MOST_READS ≡ 4294967295
+  pub reads : MOST_READS ≡ most_reads
+  pub port : MOST_TCP_PORT ≡ most_tcp_port
+  pub connections : MOST_CONNECTIONS ≡ most_connections
+  pub ticks : MOST_TICKS ≡ most_ticks
   pub runs : map number_of_run_fault (Read ∷ Write ∷ InputTooLong ∷ []) ≡ 1 ∷ 2 ∷ 3 ∷ []
   pub serving : map number_of_serve_fault (Accept ∷ []) ≡ 1 ∷ []
   pub lines : (fault : CommandFault) → map number_of_line_fault (TooLong ∷ Hex ∷ Command fault ∷ []) ≡ 1 ∷ 2 ∷ 3 ∷ []

@@ -45,10 +45,6 @@ link_form agent up words = do
   end ← of_command (end_said port.1)
   Ok (link port.0 up)
 
--- the command that these words spell, or its fault
-abbrev pub command_form : AgentState → List (List ℕ) → Result Work LineFault
-command_form agent words = on_ok command (of_command (command_said agent words))
-
 -- the words of a line: `tick`, `rx`, `up` and `down` begin a form, any other word a command
 unfoldable pub form_of : AgentState → List (List ℕ) → Result Work LineFault
 form_of agent [] = Err (Command Unknown)
@@ -57,7 +53,7 @@ form_of agent (word ∷ words) =
     else if bytes_eq word (codes "rx") then frame_form agent words
     else if bytes_eq word (codes "up") then link_form agent true words
     else if bytes_eq word (codes "down") then link_form agent false words
-    else command_form agent (word ∷ words)
+    else on_ok command (of_command (command_said agent (word ∷ words)))
 
 -- true if the line has only spaces and tabs, or `#` as the first other octet
 abbrev pub is_skipped : List ℕ → Bool

@@ -8,6 +8,7 @@ use Rattle.lldp_engine.specs.Standing.{Stands}
 use Rattle.lldp_engine.specs.Headline.{Promised}
 use Rattle.lldp_engine.specs.Sending.{HaveSentExactly}
 use Rattle.lldp_program.specs.Devices.Counts.{one_more}
+use Rattle.lldp_program.specs.Ranges.{most_reads}
 use Rattle.lldp_program.specs.Trace.Lines.{lines_of, ended_lines}
 use Rattle.lldp_program.specs.Trace.Items.{Item, after_all, text_of, text_of_all, items_of_lines}
 use Rattle.lldp_program.specs.declared.trace.RunFault.{RunFault}
@@ -57,7 +58,7 @@ Ends past input left old new agent (Err fault) = Done past (items_of_lines past 
 -- Ok: all of the input was read. InputTooLong: at least 4,294,967,295 octets were read.
 abbrev pub HasRead : {T : Type 0} → Option (List ℕ) → List ℕ → Result T RunFault → Type 0
 HasRead left input (Ok done) = IsAtEnd left
-HasRead left input (Err InputTooLong) = 4294967295 ≤ length input
+HasRead left input (Err InputTooLong) = most_reads ≤ length input
 HasRead left input (Err fault) = Unit {0}
 
 -- A run: the octets that it read, what its answer says about them, and what it did for every past

@@ -1,7 +1,7 @@
 -- What a slot stores, and the tag that decides most comparisons of MSAP identifiers.
 use Rattle.std.specs.Prelude.{ℕ, ◌≤◌, ◌+◌, ◌*◌, ◌^◌, ◌%◌, List, [], ◌∷◌}
 use Rattle.lldp_pdu.specs.Msap.{MsapId}
-use Rattle.lldp_pdu.specs.declared.frame.TheConstants.{MOST_OCTETS}
+use Rattle.lldp_pdu.specs.declared.limits.TheConstants.{MOST_OCTETS}
 
 -- the octets of a frame's extent, and the frame's TTL
 pub record Stored : Type 0 where

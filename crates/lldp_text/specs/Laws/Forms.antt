@@ -6,7 +6,8 @@ use Rattle.hex.specs.Hex.{encode_lower}
 use Rattle.lldp_pdu.specs.declared.fields.Caps.{Caps}
 use Rattle.lldp_pdu.specs.Capabilities.{caps_of}
 use Rattle.lldp_pdu.specs.ManagementAddress.{Address, address_of}
-use Rattle.lldp_text.specs.Text.{escaped, most_text}
+use Rattle.lldp_pdu.specs.Range.{most_text}
+use Rattle.lldp_text.specs.Text.{escaped}
 use Rattle.lldp_text.specs.Addresses.{mac_text, ipv4_text, ipv6_text}
 use Rattle.lldp_text.specs.Identifier.{chassis_text, port_text}
 use Rattle.lldp_text.specs.Capabilities.{capabilities_text}

@@ -1,5 +1,5 @@
 -- Which options `lldpa_open` reads, and the agent that it opens.
-use Rattle.std.specs.Prelude.{◌≡◌, ℕ, ◌<◌, ◌≤◌, true, false, [], ◌∷◌, length, map, take, Some, slice_get}
+use Rattle.std.specs.Prelude.{◌+◌, ◌≡◌, ℕ, ◌<◌, ◌≤◌, true, false, [], ◌∷◌, length, map, take, Some, slice_get}
 use Rattle.std.specs.List.{All}
 use Rattle.std.specs.Str.{IsAscii}
 use Rattle.lldp_engine.specs.AgentState.{AgentState, names_of}
@@ -28,7 +28,7 @@ pub record AreOptions (o : LldpaOptions) : Type 0 where
   pub read : AreInRange o → All (λ text. IsAscii text.octets.now) o.ports.now → IsAscii o.hostname.octets.now → IsRead o
   pub range : IsRead o → AreInRange o
   pub hostname : o.hostname.octets.now ≡ 255 ∷ [] → ¬ (IsRead o)
-  pub names : (i : ℕ) (text : LldpaText) → slice_get (take 65 o.ports.now) i ≡ Some text → text.octets.now ≡ 255 ∷ [] → ¬ (IsRead o)
+  pub names : (i : ℕ) (text : LldpaText) → slice_get (take (most_ports + 1) o.ports.now) i ≡ Some text → text.octets.now ≡ 255 ∷ [] → ¬ (IsRead o)
   pub agent : (agent : AgentState) → Opens o agent →
       (names_of agent ≡ map (λ text. text.octets.now) o.ports.now) × (agent.configuration ≡ configuration_after (asked o) [])
       × (neighbors_held agent ≡ 0)

@@ -28,6 +28,7 @@ use Rattle.lldpa_c.specs.Leaving.{Left}
 use Rattle.lldpa_c.specs.Texts.{words_of, words_checks}
 use Rattle.lldpa_c.specs.Ticks.{TicksTaken}
 use Rattle.lldpa_c.specs.Values.{tlv_value, value_checks, escape_checks}
+use Rattle.lldp_pdu.specs.Range.{most_body, most_identifier}
 
 -- The answer is this number if the condition holds. Otherwise `others` says what it is.
 abbrev pub First : Type 0 → ℕ → (ℕ → Type 0) → ℕ → Type 0
@@ -70,7 +71,7 @@ IsFrameTooLong handle port number room =
 
 -- the length is not that of an identifier
 abbrev pub IsNoIdentifier : List ℕ → Type 0
-IsNoIdentifier body = (length body < 2) ⊎ (256 < length body)
+IsNoIdentifier body = (length body < 2) ⊎ (most_identifier < length body)
 
 -- Each function answers the number of the first check that fails, or 0.
 pub record AreInOrder : Type 0 where
@@ -95,7 +96,7 @@ pub record AreInOrder : Type 0 where
       First (tlv_value kind body ≡ None) 100 (First (IsTooLong (tlv_value kind body) room) 101 IsSuccess)
       (answer_of (value_checks kind body room))
   pub escapes : (text : List ℕ) (room : ℕ) →
-      First (511 < length text) 100 (First (room < length (escaped text)) 101 IsSuccess) (answer_of (escape_checks text room))
+      First (most_body < length text) 100 (First (room < length (escaped text)) 101 IsSuccess) (answer_of (escape_checks text room))
   pub building : (chassis port faults_before faults room_before room : List ℕ) (ttl written_before answer written : ℕ) (tlvs : List LldpaTlv) →
       Builds chassis port ttl tlvs faults_before room_before written_before answer faults room written →
       First (IsNoIdentifier chassis ⊎ IsNoIdentifier port) 100 (First (length faults_before < length tlvs) 101

@@ -23,6 +23,7 @@ use Rattle.lldpa_c.specs.Ticks.{TicksTaken, Takes as TakesTicks}
 use Rattle.lldpa_c.specs.Values.{tlv_value}
 use Rattle.lldpa_c.specs.Laws.Order.{IsClosed, HasNoPort, IsNoIdentifier}
 use Rattle.lldpa_c.specs.Laws.Passed.{AreItems}
+use Rattle.lldp_pdu.specs.Range.{most_body}
 
 -- A call that answers another number than 0 changes nothing. One that answers 0 does what it is for
 -- (`ArePassedOn` says this of events), and the agent stays open. A command that shows changes no
@@ -94,4 +95,4 @@ pub record AreNotWritten : Type 0 where
   pub end : (body : List ℕ) → tlv_value 0 body ≡ None
   pub ttl : (body : List ℕ) → tlv_value 3 body ≡ None
   pub greater : (n : ℕ) (body : List ℕ) → tlv_value (128 + n) body ≡ None
-  pub longer : (kind : ℕ) (body : List ℕ) → 511 < length body → tlv_value kind body ≡ None
+  pub longer : (kind : ℕ) (body : List ℕ) → most_body < length body → tlv_value kind body ≡ None

@@ -32,6 +32,8 @@ use Rattle.lldpa_c.specs.Held.{neighbors_at}
 use Rattle.lldpa_c.specs.Reading.{ReadsNeighborCount, ReadsStatistics, ReadsConfiguration, ReadsChassis, ReadsNeighbor}
 use Rattle.lldpa_c.specs.Values.{tlv_value}
 use Rattle.lldp_engine.specs.Code.ShownValue.{kept_line}
+use Rattle.lldp_engine.specs.Ranges.{most_ports}
+use Rattle.lldp_pdu.specs.Range.{most_text}
 
 -- the word of a status that C receives as a number
 abbrev pub word_numbered : ℕ → List ℕ
@@ -100,10 +102,10 @@ pub record AreShown : Type 0 where
       configuration_lines before.held.agent
       ≡ number_lines (codes "configuration.") (settings_told told) ++ statuses_told (names_of before.held.agent) (take told.ports told.status)
   pub others : (before after : LldpaAgent) (told_before told : LldpaConfiguration) (i : ℕ) → ReadsConfiguration before told_before 0 after told →
-      length before.held.agent.ports ≤ i → i < 64 → slice_get told.status i ≡ Some 0
+      length before.held.agent.ports ≤ i → i < most_ports → slice_get told.status i ≡ Some 0
   pub chassis : (before after : LldpaAgent) (told_before told : LldpaChassis) → ReadsChassis before told_before 0 after told →
       chassis_lines before.held.agent.configuration ≡ chassis_told told
-  pub behind : (before after : LldpaAgent) (told_before told : LldpaChassis) (i : ℕ) → ReadsChassis before told_before 0 after told → i < 255 →
+  pub behind : (before after : LldpaAgent) (told_before told : LldpaChassis) (i : ℕ) → ReadsChassis before told_before 0 after told → i < most_text →
       (told.hostname_length ≤ i → slice_get told.hostname i ≡ Some 0) × (told.description_length ≤ i → slice_get told.description i ≡ Some 0)
   pub unmanaged : (before after : LldpaAgent) (told_before told : LldpaChassis) → ReadsChassis before told_before 0 after told →
       told.managed ≡ false → told.management ≡ replicate 4 0

@@ -14,6 +14,9 @@ ghost use Rattle.lldpa_c.specs.Chassis.{role_number};
 ghost use Rattle.lldpa_c.specs.Due.{IsDue};
 ghost use Rattle.lldpa_c.specs.Place.{octets_at};
 ghost use Rattle.lldpa_c.specs.Settings.{status_number};
+ghost use Rattle.lldp_engine.specs.Ranges.{most_ports};
+ghost use Rattle.lldp_pdu.specs.Range.{most_text};
+ghost use Rattle.lldp_pdu.specs.declared.limits.TheConstants.{MOST_FRAME};
 
 use crate::aged::{lldpa_aged, lldpa_aged_count};
 use crate::chassis::{LldpaChassis, lldpa_chassis};
@@ -23,6 +26,7 @@ use crate::held::{LldpaHeld, lldpa_neighbor, lldpa_neighbor_count};
 use crate::holder::LldpaAgent;
 use crate::settings::{LldpaConfiguration, lldpa_configuration, lldpa_statistics};
 use lldp_engine::Counters;
+use lldp_pdu::MOST_FRAME;
 use std::alloc::Global;
 
 /// Reads the counters of a port. Without such a port or an open agent, nothing changes.
@@ -144,8 +148,8 @@ fn chassis(alloc: Global, agent: &mut LldpaAgent, told: &mut LldpaChassis) -> u8
         × (take told.new.hostname_length told.new.hostname ≡ agent.old.held.agent.configuration.hostname)
         × (take told.new.description_length told.new.description ≡ agent.old.held.agent.configuration.description) }
     ensures zeros { agent.old.is_open ≡ true → (agent.old.held.agent.configuration.management ≡ None → told.new.management ≡ replicate 4 0)
-        × (drop told.new.hostname_length told.new.hostname ≡ drop told.new.hostname_length (replicate 255 0))
-        × (drop told.new.description_length told.new.description ≡ drop told.new.description_length (replicate 255 0)) }
+        × (drop told.new.hostname_length told.new.hostname ≡ drop told.new.hostname_length (replicate most_text 0))
+        × (drop told.new.description_length told.new.description ≡ drop told.new.description_length (replicate most_text 0)) }
     ensures kept { agent.old.is_open ≡ true → (agent.new.is_open ≡ true) × (agent.new.held.agent ≡ agent.old.held.agent) }
     ensures closed { agent.old.is_open ≡ false → (result ≡ 102) × (agent.new.is_open ≡ false) × (told.new ≡ told.old) }
 {
@@ -161,7 +165,7 @@ fn configuration(alloc: Global, agent: &mut LldpaAgent, told: &mut LldpaConfigur
         × (told.new.max_neighbors ≡ agent.old.held.agent.configuration.limit)
         × (told.new.ports ≡ length agent.old.held.agent.ports)
         × (take told.new.ports told.new.status ≡ map (λ port. status_number port.status) agent.old.held.agent.ports)
-        × (drop told.new.ports told.new.status ≡ drop told.new.ports (replicate 64 0)) }
+        × (drop told.new.ports told.new.status ≡ drop told.new.ports (replicate most_ports 0)) }
     ensures kept { agent.old.is_open ≡ true → (agent.new.is_open ≡ true) × (agent.new.held.agent ≡ agent.old.held.agent) }
     ensures closed { agent.old.is_open ≡ false → (result ≡ 102) × (agent.new.is_open ≡ false) × (told.new ≡ told.old) }
 {
@@ -178,10 +182,15 @@ fn due(alloc: Global, agent: &mut LldpaAgent, seconds: &mut u32) -> u8
 }
 
 /// Writes the ordinary frame of a port.
-fn ordinary_frame(alloc: Global, agent: &mut LldpaAgent, port: u32, room: &mut [u8; 1514]) -> usize
+fn ordinary_frame(
+    alloc: Global,
+    agent: &mut LldpaAgent,
+    port: u32,
+    room: &mut [u8; MOST_FRAME],
+) -> usize
     requires open { agent.old.is_open ≡ true }
     requires port { IsPort agent.old.held.agent port }
-    requires fits { length (frame_of agent.old.held.agent.configuration (name_of agent.old.held.agent port) Ordinary) ≤ 1514 }
+    requires fits { length (frame_of agent.old.held.agent.configuration (name_of agent.old.held.agent port) Ordinary) ≤ MOST_FRAME }
     ensures octets { take result room.new ≡ frame_of agent.old.held.agent.configuration (name_of agent.old.held.agent port) Ordinary }
     ensures rest { drop result room.new ≡ drop result room.old }
     ensures kept { (agent.new.is_open ≡ true) × (agent.new.held.agent ≡ agent.old.held.agent) }

@@ -1,5 +1,5 @@
 //! Opens and closes agents through the exported functions.
-ghost use Rattle.std.specs.Prelude.{◌≡◌, ◌≤◌, true, false, Some, None, take, map, ◌⊎◌};
+ghost use Rattle.std.specs.Prelude.{◌≡◌, ◌+◌, ◌≤◌, true, false, Some, None, take, map, ◌⊎◌};
 ghost use Rattle.std.specs.List.{All};
 ghost use Rattle.std.specs.Str.{IsUtf8};
 ghost use Rattle.lldp_engine.specs.Options.{fault_of};
@@ -9,6 +9,7 @@ ghost use Rattle.lldp_engine.specs.declared.agent.open_fault.OpenFault.{OpenFaul
 ghost use Rattle.lldp_engine.specs.declared.agent.options.Role.TheVariants.{Station};
 ghost use Rattle.lldpa_c.specs.Faults.{refusal_number};
 ghost use Rattle.lldpa_c.specs.Opening.{asked, IsRead};
+ghost use Rattle.lldp_engine.specs.Ranges.{most_ports};
 ghost use Rattle.lldp_table.specs.Ranges.{most_neighbors};
 ghost use Rattle.lldp_transmit.specs.Ranges.{most_credit_max, most_fast_init, most_reinit};
 
@@ -37,7 +38,7 @@ fn open_station(alloc: Global, options: &LldpaOptions<'_>, agent: &mut LldpaAgen
     requires closed { agent.old.is_open ≡ false }
     requires role { options.now.role ≡ 0 }
     requires managed { options.now.managed ≡ true }
-    requires names { All (λ text. IsUtf8 text.octets.now) (take 65 options.now.ports.now) }
+    requires names { All (λ text. IsUtf8 text.octets.now) (take (most_ports + 1) options.now.ports.now) }
     requires hostname { IsUtf8 options.now.hostname.octets.now }
     requires neighbors { (1 ≤ options.now.max_neighbors) × (options.now.max_neighbors ≤ most_neighbors) }
     requires credit { (1 ≤ options.now.credit_max) × (options.now.credit_max ≤ most_credit_max) }

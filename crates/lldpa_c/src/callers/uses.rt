@@ -19,7 +19,7 @@ use crate::open::lldpa_open;
 use crate::options::LldpaOptions;
 use crate::settings::lldpa_statistics;
 use crate::ticks::{LldpaTicks, lldpa_ticks};
-use lldp_engine::Counters;
+use lldp_engine::{Counters, MOST_PORTS};
 use std::alloc::Global;
 
 /// Opens an agent, passes it a frame and a second, and reads the counters of the frame's port.
@@ -41,7 +41,7 @@ fn counted(
         return false;
     }
     let mut marks = LldpaMarks {
-        items: [LldpaMark { port: 0, mark: 0 }; 64],
+        items: [LldpaMark { port: 0, mark: 0 }; MOST_PORTS],
         count: 0,
     };
     let mut ticks = LldpaTicks {

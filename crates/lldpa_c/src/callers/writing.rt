@@ -6,6 +6,7 @@ ghost use Rattle.lldp_text.specs.Text.{escaped};
 ghost use Rattle.lldpa_c.specs.Building.{begun, drafted, tlv_of, put_faults};
 ghost use Rattle.lldpa_c.specs.Texts.{words_of};
 ghost use Rattle.lldpa_c.specs.Values.{tlv_value};
+ghost use Rattle.lldp_pdu.specs.Range.{most_body};
 
 use crate::build::{LldpaTlv, lldpa_build};
 use crate::texts::lldpa_fault_text;
@@ -41,7 +42,7 @@ fn description(fault: u32, room: &mut [u8], written: &mut usize) -> u8
 
 /// Escapes a text into a room that always suffices.
 fn escape_whole(text: &[u8], room: &mut [u8; 2044]) -> usize
-    requires length { length text.now ≤ 511 }
+    requires length { length text.now ≤ most_body }
     requires fits { length (escaped text.now) ≤ 2044 }
     ensures octets { take result room.new ≡ escaped text.now }
     ensures short { result ≤ 4 * length text.now }
@@ -55,9 +56,9 @@ fn escape_whole(text: &[u8], room: &mut [u8; 2044]) -> usize
 
 /// Escapes a text into any room.
 fn escape(text: &[u8], room: &mut [u8], written: &mut usize) -> u8
-    ensures value { length text.now ≤ 511 → length (escaped text.now) ≤ length room.old → (result ≡ 0) × (take written.new room.new ≡ escaped text.now) }
-    ensures over { length text.now ≤ 511 → length room.old < length (escaped text.now) → (result ≡ 101) × (room.new ≡ room.old) × (written.new ≡ written.old) }
-    ensures long { 511 < length text.now → (result ≡ 100) × (room.new ≡ room.old) × (written.new ≡ written.old) }
+    ensures value { length text.now ≤ most_body → length (escaped text.now) ≤ length room.old → (result ≡ 0) × (take written.new room.new ≡ escaped text.now) }
+    ensures over { length text.now ≤ most_body → length room.old < length (escaped text.now) → (result ≡ 101) × (room.new ≡ room.old) × (written.new ≡ written.old) }
+    ensures long { most_body < length text.now → (result ≡ 100) × (room.new ≡ room.old) × (written.new ≡ written.old) }
     ensures within { result ≡ 0 → written.new ≤ length room.new }
     ensures short { result ≡ 0 → written.new ≤ 4 * length text.now }
     ensures rest { result ≡ 0 → drop written.new room.new ≡ drop written.new room.old }

@@ -27,8 +27,8 @@ returns-then-has c =
     (sym c.if-is_shutdown.ensures)
     (flagged c.args.self.now (tlv_view c.args.tlv.now) c.self.inside.octets.items c.self.inside.met.types c.self.inside.lives true c.self.view_is c.self.invariant c.if-has.ensures) refl refl refl)
 
-pub returns-then-tlv-gt511 : goal.returns-then-tlv-gt511
-returns-then-tlv-gt511 c =
+pub returns-then-tlv-gt-MOST_BODY : goal.returns-then-tlv-gt-MOST_BODY
+returns-then-tlv-gt-MOST_BODY c =
     sym (put_fault_is c.args.self.now (tlv_view c.args.tlv.now) true false false true _ _ (sym c.if-not-is_optional_type.ensures)
     (sym c.if-is_shutdown.ensures)
     (flagged c.args.self.now (tlv_view c.args.tlv.now) c.self.inside.octets.items c.self.inside.met.types c.self.inside.lives false c.self.view_is c.self.invariant c.if-has.ensures)
