@@ -19,29 +19,27 @@ use Rattle.lldp_engine.specs.Told.{deaf, left, stored}
 use Rattle.lldp_engine.specs.Code.Telling.{agent_told, told_at, octets_tell, pdu_tells}
 use Rattle.lldpa_c.specs.declared.place.LldpaPlace.{LldpaPlace}
 use Rattle.lldpa_c.specs.declared.news.LldpaNews.{LldpaNews}
-use Rattle.lldpa_c.specs.Place.{octets_at}
-use Rattle.lldpa_c.specs.Examined.{Holds, chassis_place, port_place}
+use Rattle.lldpa_c.specs.Place.{Holds}
+use Rattle.lldpa_c.specs.Examined.{chassis_place, port_place}
 use Rattle.lldpa_c.specs.News.{news_name, in_frame, PlacesName, HoldsName}
 use Rattle.lldpa_c.proofs.Places.{header_off, chassis_lies, port_lies}
 
 -- ---- the places of an identifier
 
 placed : (frame pdu body : List ℕ) (place : LldpaPlace) → Some pdu ≡ lldpdu_of frame → Holds pdu place body
-    → (14 + place.start + place.length ≤ length frame) × (octets_at frame (in_frame place) ≡ body)
-placed frame pdu body place h holds = (
-  omega (arith, holds.within, (header_off frame pdu h).1),
-  ap (take place.length) (sym (drop-drop place.start 14 frame) ∙ ap (drop place.start) (sym (header_off frame pdu h).0)) ∙ holds.held,
-)
+    → Holds frame (in_frame place) body
+placed frame pdu body place h holds = record {
+  within = omega (arith, holds.within, (header_off frame pdu h).1);
+  held = ap (take place.length) (sym (drop-drop place.start 14 frame) ∙ ap (drop place.start) (sym (header_off frame pdu h).0)) ∙ holds.held;
+}
 
 named_in : (frame pdu : List ℕ) (news : LldpaNews) → Some pdu ≡ lldpdu_of frame → fault_of pdu ≡ None → PlacesName news (msap_of pdu) → HoldsName frame news (msap_of pdu)
 named_in frame pdu news h sound places =
     let chassis = placed frame pdu (msap_of pdu).chassis (chassis_place (msap_of pdu)) h (chassis_lies pdu sound) in
     let port = placed frame pdu (msap_of pdu).port (port_place (msap_of pdu)) h (port_lies pdu sound) in
     record {
-      chassis_within = subst (λ (p : LldpaPlace). p.start + p.length ≤ length frame) (sym places.chassis) chassis.0;
-      chassis = ap (octets_at frame) places.chassis ∙ chassis.1;
-      port_within = subst (λ (p : LldpaPlace). p.start + p.length ≤ length frame) (sym places.port) port.0;
-      port = ap (octets_at frame) places.port ∙ port.1;
+      chassis = subst (λ (p : LldpaPlace). Holds frame p (msap_of pdu).chassis) (sym places.chassis) chassis;
+      port = subst (λ (p : LldpaPlace). Holds frame p (msap_of pdu).port) (sym places.port) port;
     }
 
 -- ---- an identifier is told only of an LLDPDU without a fault

@@ -12,7 +12,8 @@ use Rattle.lldp_pdu.specs.Lldpdu.{tlv_at, msap_of, ttl_of, extent}
 use Rattle.lldp_pdu.proofs.Cuts.{cut_none, cut_some, first_left}
 use Rattle.lldp_pdu.proofs.Opening.{fault_from}
 use Rattle.lldp_pdu.proofs.Whole.{extent_front}
-use Rattle.lldpa_c.specs.Examined.{Holds, chassis_place, port_place}
+use Rattle.lldpa_c.specs.Place.{Holds}
+use Rattle.lldpa_c.specs.Examined.{chassis_place, port_place}
 
 -- ---- a frame
 

@@ -4,7 +4,7 @@ use Rattle.lldp_pdu.specs.declared.fields.Caps.{Caps}
 use Rattle.lldp_pdu.specs.ManagementAddress.{Address}
 use Rattle.lldpa_c.specs.declared.bodies.LldpaCapabilities.{LldpaCapabilities}
 use Rattle.lldpa_c.specs.declared.bodies.LldpaManagement.{LldpaManagement}
-use Rattle.lldpa_c.specs.Place.{octets_at}
+use Rattle.lldpa_c.specs.Place.{octets_at, IsIn}
 
 -- the capabilities in the struct
 abbrev pub caps_told : LldpaCapabilities → Caps
@@ -22,8 +22,8 @@ address_told body m = record {
 
 -- both ranges lie in the body
 pub record IsWithin (body : List ℕ) (m : LldpaManagement) : Type 0 where
-  pub address : m.address.start + m.address.length ≤ length body
-  pub oid : m.oid.start + m.oid.length ≤ length body
+  pub address : IsIn body m.address
+  pub oid : IsIn body m.oid
 
 -- the struct for an address; the body has 2 octets, the address, 6 octets, the object identifier
 abbrev pub management_of : Address → LldpaManagement

@@ -6,6 +6,7 @@ use Rattle.lldp_pdu.specs.Draft.{Draft, IsReadBack, lldpdu_octets, with_tlv, put
 use Rattle.lldp_pdu.specs.Msap.{IsIdentifier}
 use Rattle.lldpa_c.specs.declared.build.LldpaTlv.{LldpaTlv}
 use Rattle.lldpa_c.specs.Faults.{tlv_fault_number}
+use Rattle.lldpa_c.specs.Place.{KeepsRest}
 
 -- the type and the body of a TLV, without its address in memory
 abbrev pub tlv_of : LldpaTlv → TlvUnit
@@ -46,7 +47,6 @@ pub record Builds (chassis port : List ℕ) (ttl : ℕ) (tlvs : List LldpaTlv) (
     (faults room : List ℕ) (written : ℕ) : Type 0 where
   pub fits : IsIdentifier chassis → IsIdentifier port → length tlvs ≤ length faults_before →
       length (lldpdu_octets (drafted chassis port ttl tlvs)) ≤ length room_before → answer ≡ 0
-  pub within : answer ≡ 0 → written ≤ length room
   pub octets : answer ≡ 0 → take written room ≡ lldpdu_octets (drafted chassis port ttl tlvs)
   pub back : answer ≡ 0 → IsReadBack (drafted chassis port ttl tlvs) (take written room)
   pub over : IsIdentifier chassis → IsIdentifier port → length tlvs ≤ length faults_before →
@@ -54,7 +54,7 @@ pub record Builds (chassis port : List ℕ) (ttl : ℕ) (tlvs : List LldpaTlv) (
   pub faults_are : IsIdentifier chassis → IsIdentifier port → length tlvs ≤ length faults_before → (i : ℕ) → i < length tlvs →
       slice_index_or faults i 0 ≡ slice_index_or (put_faults (begun chassis port ttl) (map tlv_of tlvs)) i 0
   pub rest_of_faults : drop (length tlvs) faults ≡ drop (length tlvs) faults_before
-  pub rest_of_room : answer ≡ 0 → drop written room ≡ drop written room_before
+  pub rest_of_room : answer ≡ 0 → KeepsRest written room_before room
   pub range : ¬ (IsIdentifier chassis × IsIdentifier port) → (answer ≡ 100) × (faults ≡ faults_before)
   pub short : IsIdentifier chassis → IsIdentifier port → length faults_before < length tlvs → (answer ≡ 101) × (faults ≡ faults_before)
   pub refused : ¬ (answer ≡ 0) → (room ≡ room_before) × (written ≡ written_before)

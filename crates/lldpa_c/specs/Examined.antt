@@ -9,17 +9,12 @@ use Rattle.lldp_pdu.specs.Lldpdu.{extent, ttl_of, msap_of}
 use Rattle.lldp_pdu.specs.Kept.{kept_of, discarded_of, count_unrecognized}
 use Rattle.lldpa_c.specs.declared.place.LldpaPlace.{LldpaPlace}
 use Rattle.lldpa_c.specs.declared.examine.LldpaExamined.{LldpaExamined}
-use Rattle.lldpa_c.specs.Place.{octets_at}
+use Rattle.lldpa_c.specs.Place.{Holds}
 
 -- the number of a fault, or 0
 abbrev pub fault_number : Option PduFault → ℕ
 fault_number None = 0
 fault_number (Some fault) = pdu_fault_number fault
-
--- the range lies within the octets, and contains this body
-pub record Holds (octets : List ℕ) (place : LldpaPlace) (body : List ℕ) : Type 0 where
-  pub within : place.start + place.length ≤ length octets
-  pub held : octets_at octets place ≡ body
 
 -- for a TTL above 0, the extent and the two numbers of TLVs are those of the LLDPDU
 pub record TellsLife (octets : List ℕ) (told : LldpaExamined) : Type 0 where

@@ -9,7 +9,7 @@ use Rattle.lldpa_c.specs.declared.place.LldpaPlace.{LldpaPlace}
 use Rattle.lldpa_c.specs.declared.news.LldpaNews.{LldpaNews}
 use Rattle.lldpa_c.specs.declared.news.TheConstants.{NOT_LLDP, DEAF, REFUSED, NEW, CHANGED, SAME, DROPPED, GONE, UNKNOWN}
 use Rattle.lldpa_c.specs.Examined.{chassis_place, port_place}
-use Rattle.lldpa_c.specs.Place.{octets_at}
+use Rattle.lldpa_c.specs.Place.{Holds}
 
 -- the number of what a frame with a TTL above 0 did
 abbrev pub outcome_number : Outcome → ℕ
@@ -53,10 +53,8 @@ pub record PlacesName (told : LldpaNews) (name : MsapId) : Type 0 where
 
 -- the ranges contain the bodies of these identifiers
 pub record HoldsName (frame : List ℕ) (told : LldpaNews) (name : MsapId) : Type 0 where
-  pub chassis_within : told.chassis.start + told.chassis.length ≤ length frame
-  pub chassis : octets_at frame told.chassis ≡ name.chassis
-  pub port_within : told.port.start + told.port.length ≤ length frame
-  pub port : octets_at frame told.port ≡ name.port
+  pub chassis : Holds frame told.chassis name.chassis
+  pub port : Holds frame told.port name.port
 
 -- no identifiers are reported: both ranges are empty
 pub record TellsNoName (told : LldpaNews) : Type 0 where

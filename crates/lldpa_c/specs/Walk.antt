@@ -6,7 +6,7 @@ use Rattle.lldp_pdu.specs.Fault.{fault_of}
 use Rattle.lldp_pdu.specs.Lldpdu.{extent, ttl_of}
 use Rattle.lldp_pdu.specs.Code.Seen.{kept_seen}
 use Rattle.lldpa_c.specs.declared.kept.LldpaKept.{LldpaKept}
-use Rattle.lldpa_c.specs.Place.{octets_at}
+use Rattle.lldpa_c.specs.Place.{octets_at, IsIn}
 
 -- the octets are the extent of an LLDPDU without a fault and with a TTL above 0
 pub record IsExtent (octets : List ℕ) : Type 0 where
@@ -27,7 +27,7 @@ left_of octets walk = kept_seen walk.met (tlvs_from octets walk.next)
 pub record Advances (octets : List ℕ) (before : LldpaKept) (found : Bool) (after : LldpaKept) : Type 0 where
   pub given : IsTrue found → left_of octets before
       ≡ record { kind = after.kind; body = octets_at octets after.body } ∷ left_of octets after
-  pub within : IsTrue found → after.body.start + after.body.length ≤ length octets
+  pub within : IsTrue found → IsIn octets after.body
   pub ended : found ≡ false → left_of octets before ≡ []
   pub kept : found ≡ false → after ≡ before
 

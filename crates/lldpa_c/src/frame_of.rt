@@ -5,6 +5,7 @@ ghost use Rattle.lldp_engine.specs.AgentState.{IsPort};
 ghost use Rattle.lldp_engine.specs.Frames.{IsSent};
 ghost use Rattle.lldp_engine.specs.AgentState.{name_of};
 ghost use Rattle.lldp_engine.specs.Frames.{frame_of};
+ghost use Rattle.lldpa_c.specs.Place.{KeepsRest};
 ghost use Rattle.lldpa_c.specs.Answer.{answer_of};
 ghost use Rattle.lldpa_c.specs.Frame.{mark_numbered, frame_checks, Writes, Keeps};
 
@@ -64,8 +65,7 @@ pub extern "C" fn lldpa_frame_of(
 ) -> u8
     ensures written { result ≡ 0 → (m : Mark) × (mark_numbered mark ≡ Some m)
         × Writes agent.old.held.agent port m (take written.new room.new) }
-    ensures within { result ≡ 0 → written.new ≤ length room.new }
-    ensures rest { result ≡ 0 → drop written.new room.new ≡ drop written.new room.old }
+    ensures rest { result ≡ 0 → KeepsRest written.new room.old room.new }
     ensures answer { result ≡ answer_of (frame_checks agent.old port mark (length room.old)) }
     ensures kept { Keeps agent.old agent.new }
     ensures refused { ¬ (result ≡ 0) → (room.new ≡ room.old) × (written.new ≡ written.old) }

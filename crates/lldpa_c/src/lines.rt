@@ -1,6 +1,7 @@
 //! Writes lines of a show, as many as fit in the caller's buffer.
 ghost use Rattle.std.specs.Prelude.{◌≡◌, ◌+◌, ◌≤◌, ◌<◌, ◌++◌, true, false, max, length, take, drop, IfSome, IfNone};
 ghost use Rattle.lldp_engine.specs.Lines.{lines_of};
+ghost use Rattle.lldpa_c.specs.Place.{KeepsRest};
 ghost use Rattle.lldpa_c.specs.Frame.{Keeps};
 ghost use Rattle.lldpa_c.specs.Answer.{answer_of};
 ghost use Rattle.lldpa_c.specs.Command.{show_numbered};
@@ -174,8 +175,7 @@ pub extern "C" fn lldpa_show_lines(
     told: &mut LldpaLines,
 ) -> u8
     ensures filled { result ≡ 0 → Filled agent.old.held.agent show from told.new room.new }
-    ensures within { result ≡ 0 → told.new.length ≤ length room.new }
-    ensures rest { result ≡ 0 → drop told.new.length room.new ≡ drop told.new.length room.old }
+    ensures rest { result ≡ 0 → KeepsRest told.new.length room.old room.new }
     ensures answer { result ≡ answer_of (lines_checks agent.old show from (length room.old)) }
     ensures kept { Keeps agent.old agent.new }
     ensures refused { ¬ (result ≡ 0) → (room.new ≡ room.old) × (told.new ≡ told.old) }

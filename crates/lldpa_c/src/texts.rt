@@ -1,6 +1,7 @@
 //! The descriptions of error numbers.
-ghost use Rattle.std.specs.Prelude.{◌≡◌, ◌≤◌, Some, IfSome, length, take, drop};
+ghost use Rattle.std.specs.Prelude.{◌≡◌, Some, length, take, drop};
 ghost use Rattle.std.specs.Option.{option_map};
+ghost use Rattle.lldpa_c.specs.Place.{KeepsRest};
 ghost use Rattle.lldpa_c.specs.Answer.{answer_of};
 ghost use Rattle.lldpa_c.specs.Texts.{words_of, words_checks};
 
@@ -10,7 +11,6 @@ use crate::giving::give;
 /// Returns the description of an error number, if there is such an error.
 fn words_of(number: u32) -> Option<&'static [u8]>
     ensures words { option_map (λ words. words.now) result ≡ words_of number }
-    ensures short { IfSome result (λ words. length words.now ≤ 65) }
 {
     match number {
         1 => Some(b"no complete TLV where a mandatory one belongs"),
@@ -52,9 +52,7 @@ fn words_of(number: u32) -> Option<&'static [u8]>
 #[unsafe(no_mangle)]
 pub extern "C" fn lldpa_fault_text(fault: u32, room: &mut [u8], written: &mut usize) -> u8
     ensures words { result ≡ 0 → words_of fault ≡ Some (take written.new room.new) }
-    ensures within { result ≡ 0 → written.new ≤ length room.new }
-    ensures short { result ≡ 0 → written.new ≤ 65 }
-    ensures rest { result ≡ 0 → drop written.new room.new ≡ drop written.new room.old }
+    ensures rest { result ≡ 0 → KeepsRest written.new room.old room.new }
     ensures answer { result ≡ answer_of (words_checks fault (length room.old)) }
     ensures refused { ¬ (result ≡ 0) → (room.new ≡ room.old) × (written.new ≡ written.old) }
 {

@@ -2,6 +2,7 @@
 ghost use Rattle.std.specs.Prelude.{◌≡◌, ◌≤◌, ◌<◌, ◌+◌, ◌*◌, ◌++◌, [], Some, IsTrue, length, take, drop};
 ghost use Rattle.lldp_text.specs.Tail.{tail_text, tail_room};
 ghost use Rattle.lldp_text.specs.Text.{escaped};
+ghost use Rattle.lldpa_c.specs.Place.{KeepsRest};
 ghost use Rattle.lldpa_c.specs.Answer.{answer_of};
 ghost use Rattle.lldpa_c.specs.Values.{may_write, value_of, tlv_value, value_checks, escape_checks};
 
@@ -71,9 +72,8 @@ fn give_text(head: &[u8], tail: Tail<'_>, room: &mut [u8], written: &mut usize) 
 #[unsafe(no_mangle)]
 pub extern "C" fn lldpa_tlv_text(kind: u32, body: &[u8], room: &mut [u8], written: &mut usize) -> u8
     ensures text { result ≡ 0 → tlv_value kind body.now ≡ Some (take written.new room.new) }
-    ensures within { result ≡ 0 → written.new ≤ length room.new }
     ensures short { result ≡ 0 → written.new ≤ 1058 }
-    ensures rest { result ≡ 0 → drop written.new room.new ≡ drop written.new room.old }
+    ensures rest { result ≡ 0 → KeepsRest written.new room.old room.new }
     ensures answer { result ≡ answer_of (value_checks kind body.now (length room.old)) }
     ensures refused { ¬ (result ≡ 0) → (room.new ≡ room.old) × (written.new ≡ written.old) }
 {
@@ -90,9 +90,8 @@ pub extern "C" fn lldpa_tlv_text(kind: u32, body: &[u8], room: &mut [u8], writte
 #[unsafe(no_mangle)]
 pub extern "C" fn lldpa_escape(text: &[u8], room: &mut [u8], written: &mut usize) -> u8
     ensures text { result ≡ 0 → take written.new room.new ≡ escaped text.now }
-    ensures within { result ≡ 0 → written.new ≤ length room.new }
     ensures short { result ≡ 0 → written.new ≤ 4 * length text.now }
-    ensures rest { result ≡ 0 → drop written.new room.new ≡ drop written.new room.old }
+    ensures rest { result ≡ 0 → KeepsRest written.new room.old room.new }
     ensures answer { result ≡ answer_of (escape_checks text.now (length room.old)) }
     ensures refused { ¬ (result ≡ 0) → (room.new ≡ room.old) × (written.new ≡ written.old) }
 {

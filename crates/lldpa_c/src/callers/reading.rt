@@ -1,5 +1,5 @@
 //! Reads LLDPDUs and bodies of TLVs through the exported functions, as lldp_pdu does.
-ghost use Rattle.std.specs.Prelude.{◌≡◌, IsSome, ◌≤◌, ◌<◌, true, false, Some, None, length, take, slice_get, ◌+◌, ◌∷◌, []};
+ghost use Rattle.std.specs.Prelude.{◌≡◌, IsSome, ◌≤◌, ◌<◌, true, false, Some, None, length, take, slice_get, ◌+◌, ◌∷◌, [], if◌then◌else◌};
 ghost use Rattle.std.specs.Option.{option_map, option_copied};
 ghost use Rattle.lldp_pdu.specs.Fault.{fault_of};
 ghost use Rattle.lldp_pdu.specs.Capabilities.{caps_of};
@@ -37,6 +37,13 @@ fn pdu_of(frame: &[u8]) -> Option<&[u8]>
         prove!(place.start == 7 && place.length == 9);
         None
     }
+}
+
+/// Finds the range of the LLDPDU of a frame.
+fn place_of(frame: &[u8], place: &mut LldpaPlace) -> bool
+    ensures { (if result then Some (octets_at frame.now place.new) else None) ≡ lldpdu_of frame.now }
+{
+    lldpa_frame_pdu(frame, place)
 }
 
 /// Examines an LLDPDU.

@@ -33,11 +33,15 @@ fn description(fault: u32, room: &mut [u8], written: &mut usize) -> u8
     ensures over { (words : List ℕ) → words_of fault ≡ Some words → length room.old < length words →
         (result ≡ 101) × (room.new ≡ room.old) × (written.new ≡ written.old) }
     ensures none { words_of fault ≡ None → (result ≡ 100) × (room.new ≡ room.old) × (written.new ≡ written.old) }
-    ensures within { result ≡ 0 → written.new ≤ length room.new }
-    ensures short { result ≡ 0 → written.new ≤ 65 }
     ensures rest { result ≡ 0 → drop written.new room.new ≡ drop written.new room.old }
 {
-    lldpa_fault_text(fault, room, written)
+    let answer = lldpa_fault_text(fault, room, written);
+    if answer != 0 {
+        return answer;
+    }
+    prove!(*written <= room.len());
+    prove!(*written <= 65);
+    answer
 }
 
 /// Escapes a text into a room that always suffices.
@@ -45,7 +49,6 @@ fn escape_whole(text: &[u8], room: &mut [u8; 2044]) -> usize
     requires length { length text.now ≤ most_body }
     requires fits { length (escaped text.now) ≤ 2044 }
     ensures octets { take result room.new ≡ escaped text.now }
-    ensures short { result ≤ 4 * length text.now }
     ensures rest { drop result room.new ≡ drop result room.old }
 {
     let mut written = 9999;
@@ -59,11 +62,25 @@ fn escape(text: &[u8], room: &mut [u8], written: &mut usize) -> u8
     ensures value { length text.now ≤ most_body → length (escaped text.now) ≤ length room.old → (result ≡ 0) × (take written.new room.new ≡ escaped text.now) }
     ensures over { length text.now ≤ most_body → length room.old < length (escaped text.now) → (result ≡ 101) × (room.new ≡ room.old) × (written.new ≡ written.old) }
     ensures long { most_body < length text.now → (result ≡ 100) × (room.new ≡ room.old) × (written.new ≡ written.old) }
-    ensures within { result ≡ 0 → written.new ≤ length room.new }
-    ensures short { result ≡ 0 → written.new ≤ 4 * length text.now }
     ensures rest { result ≡ 0 → drop written.new room.new ≡ drop written.new room.old }
 {
-    lldpa_escape(text, room, written)
+    let answer = lldpa_escape(text, room, written);
+    if answer != 0 {
+        return answer;
+    }
+    prove!(*written <= room.len());
+    answer
+}
+
+/// Returns how many octets of a room an escaped text takes.
+fn escaped_length(text: &[u8], room: &mut [u8]) -> Result<usize, u8> {
+    let mut written = 0;
+    let answer = lldpa_escape(text, room, &mut written);
+    if answer != 0 {
+        return Err(answer);
+    }
+    prove!(written <= 4 * text.len());
+    Ok(written)
 }
 
 /// Writes a TLV.
@@ -74,7 +91,6 @@ fn tlv_whole(kind: u32, body: &[u8], room: &mut [u8; 1058]) -> Option<usize>
     let mut written = 9999;
     let answer = lldpa_tlv_text(kind, body, room, &mut written);
     if answer == 0 {
-        prove!(written <= 1058);
         Some(written)
     } else {
         prove!(written == 9999);
@@ -88,11 +104,15 @@ fn tlv(kind: u32, body: &[u8], room: &mut [u8], written: &mut usize) -> u8
     ensures over { (text : List ℕ) → tlv_value kind body.now ≡ Some text → length room.old < length text →
         (result ≡ 101) × (room.new ≡ room.old) × (written.new ≡ written.old) }
     ensures none { tlv_value kind body.now ≡ None → (result ≡ 100) × (room.new ≡ room.old) × (written.new ≡ written.old) }
-    ensures within { result ≡ 0 → written.new ≤ length room.new }
-    ensures short { result ≡ 0 → written.new ≤ 1058 }
     ensures rest { result ≡ 0 → drop written.new room.new ≡ drop written.new room.old }
 {
-    lldpa_tlv_text(kind, body, room, written)
+    let answer = lldpa_tlv_text(kind, body, room, written);
+    if answer != 0 {
+        return answer;
+    }
+    prove!(*written <= room.len());
+    prove!(*written <= 1058);
+    answer
 }
 
 /// Builds an LLDPDU.

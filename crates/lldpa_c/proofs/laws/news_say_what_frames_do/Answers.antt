@@ -63,8 +63,8 @@ module _ (port : PortState) (octets : List ℕ) (news : LldpaNews) (r : Reports 
       let holds = r.named msap (ap news_name told ∙ one_name (ttl_of pdu == 0) held msap outcome) in
       record {
         fault = r.fault ∙ ap news_fault told ∙ no_fault (ttl_of pdu == 0) held msap outcome;
-        chassis = holds.chassis;
-        port_id = holds.port;
+        chassis = holds.chassis.held;
+        port_id = holds.port.held;
         leaves = λ e. r.what ∙ ap news_number (gone e);
         held = λ was lt e. r.what ∙ ap news_number (alive lt) ∙ ap (λ before. outcome_number (outcome_for port.table before (extent pdu))) e ∙ same_or_not (bytes_eq was (extent pdu));
         other = λ lt e. r.what ∙ ap news_number (alive lt) ∙ ap (λ before. outcome_number (outcome_for port.table before (extent pdu))) e ∙ room_or_not (nat_lt (length port.table.neighbors) port.table.limit);

@@ -88,7 +88,7 @@ returns-then-left-told c =
     let answer = c.lldpa_show_lines-answer in
     let p = page_of c.page.agent.held.agent c.args.agent.now.held.agent c.page.from answer.new.told answer.new.room i.1 (answer.ensures.filled c.if-answer-ne0.false) in
     here (lines_of Neighbors c.args.agent.now.held.agent) c.page.from c.args.n c.page.left answer.new.told answer.new.room p
-    (answer.ensures.within c.if-answer-ne0.false) c.if-left-told.true i.3
+    (answer.ensures.rest c.if-answer-ne0.false).within c.if-left-told.true i.3
 
 pub returns-then-told : goal.returns-then-told
 returns-then-told c =
@@ -96,7 +96,7 @@ returns-then-told c =
     let answer = c.lldpa_show_lines-answer in
     let p = page_of c.page.agent.held.agent c.args.agent.now.held.agent c.page.from answer.new.told answer.new.room i.1 (answer.ensures.filled c.if-answer-ne0.false) in
     nothing (lines_of Neighbors c.args.agent.now.held.agent) c.page.from c.args.n c.page.left answer.new.told answer.new.room p
-    (answer.ensures.within c.if-answer-ne0.false) c.if-left-told.false c.if-told.true i.3
+    (answer.ensures.rest c.if-answer-ne0.false).within c.if-left-told.false c.if-told.true i.3
 
 pub page-smaller : goal.page-smaller
 page-smaller c =
@@ -117,5 +117,5 @@ page-preserved c =
       answer.ensures.kept.is_open ∙ i.0,
       answer.ensures.kept.agent i.0 ∙ i.1,
       next,
-      later lines c.page.from c.args.n c.page.left answer.new.told answer.new.room p (answer.ensures.within c.if-answer-ne0.false) c.if-left-told.false i.3,
+      later lines c.page.from c.args.n c.page.left answer.new.told answer.new.room p (answer.ensures.rest c.if-answer-ne0.false).within c.if-left-told.false i.3,
     )
