@@ -1,5 +1,5 @@
 -- The news of a frame: what its step tells, in the struct for C.
-use Rattle.std.specs.Prelude.{◌≡◌, ℕ, ◌+◌, ◌≤◌, if◌then◌else◌, List, length, Option, Some, None}
+use Rattle.std.specs.Prelude.{◌≡◌, ℕ, ◌+◌, if◌then◌else◌, List, Option, Some, None}
 use Rattle.lldp_pdu.specs.FaultNumber.{pdu_fault_number}
 use Rattle.lldp_pdu.specs.Msap.{MsapId}
 use Rattle.lldp_table.specs.declared.learned.Outcome.{Outcome}

@@ -3,6 +3,7 @@ ghost use Rattle.std.specs.Prelude.{◌≡◌, ◌+◌, ◌≤◌, false, length
 ghost use Rattle.lldp_pdu.specs.Capabilities.{caps_of};
 ghost use Rattle.lldp_pdu.specs.ManagementAddress.{address_of};
 ghost use Rattle.lldp_pdu.specs.View.{address_view};
+ghost use Rattle.lldpa_c.specs.Answer.{TellsIf};
 ghost use Rattle.lldpa_c.specs.Bodies.{caps_told, address_told, management_of, IsWithin};
 
 use crate::place::LldpaPlace;
@@ -31,8 +32,7 @@ pub struct LldpaManagement {
 /// returns false, and leaves the struct unchanged.
 #[unsafe(no_mangle)]
 pub extern "C" fn lldpa_caps(body: &[u8], told: &mut LldpaCapabilities) -> bool
-    ensures value { (if result then Some (caps_told told.new) else None) ≡ caps_of body.now }
-    ensures none { result ≡ false → told.new ≡ told.old }
+    ensures told { TellsIf (caps_of body.now) caps_told told.old result told.new }
 {
     match caps(body) {
         None => false,
@@ -70,10 +70,8 @@ fn management(fields: &Mgmt<'_>) -> LldpaManagement
 /// returns false, and leaves the struct unchanged.
 #[unsafe(no_mangle)]
 pub extern "C" fn lldpa_mgmt(body: &[u8], told: &mut LldpaManagement) -> bool
-    ensures value { (if result then Some (address_told body.now told.new) else None)
-        ≡ address_of body.now }
+    ensures told { TellsIf (address_of body.now) (address_told body.now) told.old result told.new }
     ensures within { IsTrue result → IsWithin body.now told.new }
-    ensures none { result ≡ false → told.new ≡ told.old }
 {
     match mgmt(body) {
         None => false,

@@ -1,6 +1,7 @@
 //! Finds the LLDPDU in an Ethernet frame.
 ghost use Rattle.std.specs.Prelude.{◌≡◌, ◌+◌, false, length, Some, None, IsTrue, if◌then◌else◌};
 ghost use Rattle.lldp_pdu.specs.Frame.{lldpdu_of};
+ghost use Rattle.lldpa_c.specs.Answer.{TellsIf};
 ghost use Rattle.lldpa_c.specs.Place.{octets_at};
 
 use crate::place::LldpaPlace;
@@ -13,10 +14,8 @@ pub(crate) const HEADER: usize = 14;
 /// leaves the range unchanged.
 #[unsafe(no_mangle)]
 pub extern "C" fn lldpa_frame_pdu(frame: &[u8], pdu: &mut LldpaPlace) -> bool
-    ensures value { (if result then Some (octets_at frame.now pdu.new) else None)
-        ≡ lldpdu_of frame.now }
+    ensures told { TellsIf (lldpdu_of frame.now) (octets_at frame.now) pdu.old result pdu.new }
     ensures within { IsTrue result → pdu.new.start + pdu.new.length ≡ length frame.now }
-    ensures none { result ≡ false → pdu.new ≡ pdu.old }
 {
     match frame_pdu(frame) {
         None => false,

@@ -41,7 +41,8 @@ fn pdu_of(frame: &[u8]) -> Option<&[u8]>
 
 /// Finds the range of the LLDPDU of a frame.
 fn place_of(frame: &[u8], place: &mut LldpaPlace) -> bool
-    ensures { (if result then Some (octets_at frame.now place.new) else None) ≡ lldpdu_of frame.now }
+    ensures value { (if result then Some (octets_at frame.now place.new) else None) ≡ lldpdu_of frame.now }
+    ensures none { result ≡ false → place.new ≡ place.old }
 {
     lldpa_frame_pdu(frame, place)
 }
@@ -85,6 +86,7 @@ fn fields(body: &[u8], told: &mut LldpaCapabilities) -> bool
     ensures some { result ≡ true → (c : CapsFields) → caps_of body.now ≡ Some c → (told.new.available ≡ c.available) × (told.new.enabled ≡ c.enabled) }
     ensures is_some { result ≡ true → IsSome (caps_of body.now) }
     ensures none { result ≡ false → caps_of body.now ≡ None }
+    ensures kept { result ≡ false → told.new ≡ told.old }
 {
     lldpa_caps(body, told)
 }
@@ -119,6 +121,15 @@ fn management(body: &[u8]) -> Option<Mgmt<'_>>
     })
 }
 
+/// Reads the fields of a management address, if the body is that of one.
+fn address(body: &[u8], told: &mut LldpaManagement) -> bool
+    ensures some { result ≡ true → IsSome (address_of body.now) }
+    ensures none { result ≡ false → address_of body.now ≡ None }
+    ensures kept { result ≡ false → told.new ≡ told.old }
+{
+    lldpa_mgmt(body, told)
+}
+
 /// Finds the next kept TLV.
 fn next_kept(octets: &[u8], walk: &mut LldpaKept) -> bool
     ensures begun { IsExtent octets.now → walk.old.next ≡ 0 → walk.old.met ≡ none_seen → left_of octets.now walk.old ≡ kept_of octets.now }
@@ -128,6 +139,17 @@ fn next_kept(octets: &[u8], walk: &mut LldpaKept) -> bool
     ensures none { result ≡ false → (left_of octets.now walk.old ≡ []) × (walk.new ≡ walk.old) }
 {
     lldpa_next_kept(octets, walk)
+}
+
+/// Looks for a kept TLV where there is none.
+fn has_none(octets: &[u8], walk: &mut LldpaKept)
+    requires extent { IsExtent octets.now }
+    requires begins { (walk.old.next ≡ 0) × (walk.old.met ≡ none_seen) }
+    requires none { kept_of octets.now ≡ [] }
+    ensures { walk.new ≡ walk.old }
+{
+    let found = lldpa_next_kept(octets, walk);
+    prove!(!found);
 }
 
 /// Returns the kept TLV with this number, from 0, by a walk from the first.
