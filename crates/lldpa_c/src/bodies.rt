@@ -1,5 +1,5 @@
 //! Reads the bodies of System Capabilities and Management Address TLVs.
-ghost use Rattle.std.specs.Prelude.{◌≡◌, ◌+◌, ◌≤◌, false, length, Some, None, IsTrue, if◌then◌else◌};
+ghost use Rattle.std.specs.Prelude.{◌≡◌, IsTrue};
 ghost use Rattle.lldp_pdu.specs.Capabilities.{caps_of};
 ghost use Rattle.lldp_pdu.specs.ManagementAddress.{address_of};
 ghost use Rattle.lldp_pdu.specs.View.{address_view};

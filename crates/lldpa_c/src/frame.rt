@@ -1,5 +1,5 @@
 //! Finds the LLDPDU in an Ethernet frame.
-ghost use Rattle.std.specs.Prelude.{◌≡◌, ◌+◌, false, length, Some, None, IsTrue, if◌then◌else◌};
+ghost use Rattle.std.specs.Prelude.{◌≡◌, ◌+◌, length, IsTrue};
 ghost use Rattle.lldp_pdu.specs.Frame.{lldpdu_of};
 ghost use Rattle.lldpa_c.specs.Answer.{TellsIf};
 ghost use Rattle.lldpa_c.specs.Place.{octets_at};

@@ -1,5 +1,5 @@
 //! The descriptions of error numbers.
-ghost use Rattle.std.specs.Prelude.{◌≡◌, Some, length, take, drop};
+ghost use Rattle.std.specs.Prelude.{◌≡◌, Some, length, take};
 ghost use Rattle.std.specs.Option.{option_map};
 ghost use Rattle.lldpa_c.specs.Place.{KeepsRest};
 ghost use Rattle.lldpa_c.specs.Answer.{answer_of};
