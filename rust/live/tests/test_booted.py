@@ -1,5 +1,5 @@
 """Tests the service under a systemd that boots in a container: what it does to an lldpa-live that hangs, that is killed,
-or that has wrong options, and how it is installed and removed without packages."""
+or that has wrong options, and how it is installed, upgraded and removed without packages."""
 
 import os
 import shutil
@@ -15,8 +15,9 @@ from wires import Peer, Wires, ttl_of
 
 PREFIX = "/opt/lldpa"
 SCRIPT = "/src/tools/release/install.sh"
+COPY = f"LLDPA=/built/lldpa LLDPA_LIVE=/built/lldpa-live {SCRIPT} {PREFIX}"
 INSTALL = f"""
-LLDPA=/built/lldpa LLDPA_LIVE=/built/lldpa-live {SCRIPT} {PREFIX}
+{COPY}
 systemctl link {PREFIX}/lib/systemd/system/*
 """
 CTL = f"{PREFIX}/bin/lldpa-ctl"
@@ -125,6 +126,23 @@ class TestUnit(Installed):
         self.hears_it()
         self.run_in_it("systemctl", "stop", "lldpa")
         self.assertIsNotNone(self.peer.hears(HANGS, ttl=0), "no goodbye")
+
+    def test_upgrade(self) -> None:
+        """Who installs another release over this one, and restarts the service, keeps configuration and neighbors."""
+        self.peer.send(numbered(7))
+        self.assertTrue(eventually(lambda: self.has_neighbor("p7"), HANGS))
+        old = self.process()
+        said = self.run_in_it("sh", "-euc", COPY)
+        self.assertIn(f"{PREFIX}/etc/default/lldpa was changed, so it stays", said)
+        self.assertEqual(self.options.read_text(), self.given)
+        self.assertEqual(self.process(), old)
+        since = Peer(self.wires, "peer0")
+        self.addCleanup(since.close)
+        self.run_in_it("systemctl", "daemon-reload")
+        self.run_in_it("systemctl", "try-restart", "lldpa", "lldpa-record")
+        self.assertTrue(eventually(lambda: self.runs_anew(old), HANGS))
+        self.assertTrue(self.has_neighbor("p7"))
+        self.assertNotEqual(ttl_of(since.hears(HANGS) or self.fail("it sends nothing")), 0)
 
     def test_reload(self) -> None:
         """A reload takes new settings over in the same process."""
